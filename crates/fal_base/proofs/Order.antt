@@ -1,0 +1,27 @@
+-- The order of keys is total, and changes of the tree keep it.
+use Rattle.std.proofs.Common.{Bool, true, false, refl}
+use Rattle.std.specs.Prelude.{T, IsTrue}
+use Rattle.std.specs.Cmp.{IsTotalOrder, then_total, on_total, nat_cmp_total}
+use Rattle.std.specs.Cmp.Lexicographic.{nat_list_cmp_total}
+use Rattle.std.specs.FinMap.Entries.{is_sorted-put, is_sorted-where_key}
+use Rattle.fal_base.specs.declared.inode.Inode.{Inode}
+use Rattle.fal_base.specs.declared.key.Key.{Key}
+use Rattle.fal_base.specs.Tree.{Tree, key_cmp, with_row, without_row, IsInOrder}
+
+pub key_cmp_total : IsTotalOrder key_cmp
+unfolding key_cmp
+key_cmp_total = then_total (on_total (λ k. k.parent) nat_cmp_total) (on_total (λ k. k.name) nat_list_cmp_total)
+
+held : (b : Bool) → IsTrue b → T b
+held true is = tt
+held false is = cc
+
+told : (b : Bool) → T b → IsTrue b
+told true is = refl
+told false is = absurd is
+
+pub in_order_with : (tree : Tree) (key : Key) (inode : Inode) → IsInOrder tree → IsInOrder (with_row tree key inode)
+in_order_with tree key inode sorted = told _ (is_sorted-put key_cmp key_cmp_total key inode tree (held _ sorted))
+
+pub in_order_without : (tree : Tree) (key : Key) → IsInOrder tree → IsInOrder (without_row tree key)
+in_order_without tree key sorted = told _ (is_sorted-where_key key_cmp _ tree (held _ sorted))

@@ -1,0 +1,10 @@
+pub mod Answer
+pub mod Change
+pub mod Commits
+pub mod Names
+pub mod PathArgs
+pub mod Paths
+pub mod Permission
+pub mod Tree
+pub mod Unless
+pub mod Walk
