@@ -1,10 +1,16 @@
 pub mod Answer
 pub mod Change
 pub mod Commits
+pub mod EachOnce
+pub mod History
+pub mod Linear
+pub mod Listing
 pub mod Names
 pub mod PathArgs
 pub mod Paths
 pub mod Permission
+pub mod Places
+pub mod Transcript
 pub mod Tree
 pub mod Unless
 pub mod Walk

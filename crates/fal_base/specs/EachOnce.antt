@@ -1,0 +1,38 @@
+-- Each call is sent once, answered at most once, and what is recorded of it stands between the two.
+use Rattle.std.specs.Prelude.{◌≡◌, ℕ, ◌+◌, ◌<◌, true, List, Some, IsSomeAnd, IsSome, take, slice_get}
+use Rattle.fal_base.specs.declared.call.Config.{Config}
+use Rattle.fal_base.specs.declared.entry.Entry.{Entry}
+use Rattle.fal_base.specs.declared.entry.Entry.TheVariants.{Sent, Commit, Opened, Placed, Stale, Answered}
+use Rattle.fal_base.specs.declared.reply.Reply.{Reply}
+use Rattle.fal_base.specs.Transcript.{call_of, sents, is_list, is_place}
+
+-- no entry before j answers this call
+abbrev pub NotAnswered : List Entry → ℕ → ℕ → ℕ → Type 0
+NotAnswered entries j lane seq = (i point : ℕ) (reply : Reply) → i < j → slice_get entries i ≡ Some (Answered lane seq point reply) → ⊥
+
+-- no entry before j is a commit of this call
+abbrev pub NotCommitted : List Entry → ℕ → ℕ → ℕ → Type 0
+NotCommitted entries j lane seq = (i ino : ℕ) → i < j → slice_get entries i ≡ Some (Commit lane seq ino) → ⊥
+
+abbrev pub NotOpened : List Entry → ℕ → ℕ → ℕ → Type 0
+NotOpened entries j lane seq = (i ino point : ℕ) → i < j → slice_get entries i ≡ Some (Opened lane seq ino point) → ⊥
+
+abbrev pub NotPlaced : List Entry → ℕ → ℕ → ℕ → Type 0
+NotPlaced entries j lane seq = (i version : ℕ) → i < j → slice_get entries i ≡ Some (Placed lane seq version) → ⊥
+
+-- at entry j this call is the lane's last one that was sent, and not yet answered
+pub record IsOpen (entries : List Entry) (j lane seq : ℕ) : Type 0 where
+  pub last : sents lane (take j entries) ≡ seq
+  pub some : 0 < seq
+  pub unanswered : NotAnswered entries j lane seq
+
+pub record IsEachOnce (config : Config) (entries : List Entry) : Type 0 where
+  -- a lane's calls are sent in their order
+  pub sent : (j lane seq : ℕ) → slice_get entries j ≡ Some (Sent lane seq) → (seq ≡ sents lane (take j entries) + 1) × IsSome (call_of config lane seq)
+  pub answered : (j lane seq point : ℕ) (reply : Reply) → slice_get entries j ≡ Some (Answered lane seq point reply) → IsOpen entries j lane seq
+  pub committed : (j lane seq ino : ℕ) → slice_get entries j ≡ Some (Commit lane seq ino) → IsOpen entries j lane seq × NotCommitted entries j lane seq
+  pub opened : (j lane seq ino point : ℕ) → slice_get entries j ≡ Some (Opened lane seq ino point)
+      → IsOpen entries j lane seq × NotOpened entries j lane seq × IsSomeAnd (call_of config lane seq) (λ call. is_list call.op ≡ true)
+  pub placed : (j lane seq version : ℕ) → slice_get entries j ≡ Some (Placed lane seq version)
+      → IsOpen entries j lane seq × NotPlaced entries j lane seq × IsSomeAnd (call_of config lane seq) (λ call. is_place call.op ≡ true)
+  pub stale : (j lane seq old new : ℕ) → slice_get entries j ≡ Some (Stale lane seq old new) → IsOpen entries j lane seq
