@@ -1,6 +1,7 @@
 pub mod Answer
 pub mod Change
 pub mod Commits
+pub mod Maps
 pub mod Names
 pub mod PathArgs
 pub mod Paths
