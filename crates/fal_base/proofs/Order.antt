@@ -1,6 +1,10 @@
 -- The order of keys is total, and changes of the tree keep it.
-use Rattle.std.proofs.Common.{Bool, true, false, refl}
+use Rattle.std.proofs.Common.{◌≡◌, Bool, true, false, refl}
 use Rattle.std.specs.Prelude.{T, IsTrue}
+use Rattle.std.specs.declared.cmp.Ordering.TheVariants.{Less, Equal, Greater}
+use Rattle.std.specs.Ordering.{nat_cmp, ordering_then}
+use Rattle.std.specs.Cmp.Lexicographic.{slice_cmp}
+use Rattle.std.specs.FinMap.{nat_cmp-IsAntisymmetric, slice_cmp-IsAntisymmetric}
 use Rattle.std.specs.Cmp.{IsTotalOrder, then_total, on_total, nat_cmp_total}
 use Rattle.std.specs.Cmp.Lexicographic.{nat_list_cmp_total}
 use Rattle.std.specs.FinMap.Entries.{is_sorted-put, is_sorted-where_key}
@@ -12,11 +16,21 @@ pub key_cmp_total : IsTotalOrder key_cmp
 unfolding key_cmp
 key_cmp_total = then_total (on_total (λ k. k.parent) nat_cmp_total) (on_total (λ k. k.name) nat_list_cmp_total)
 
-held : (b : Bool) → IsTrue b → T b
+-- keys that tie are one
+pub same_of_tied : (a b : Key) → key_cmp a b ≡ Equal → a ≡ b
+unfolding key_cmp
+same_of_tied a b tied =
+    elim (nat_cmp a.parent b.parent) as (λ r. nat_cmp a.parent b.parent ≡ r → ordering_then r (slice_cmp nat_cmp a.name b.name) ≡ Equal → a ≡ b) [
+      | Less ↦ λ _ wrong. cc
+      | Equal ↦ λ parents names. let one = nat_cmp-IsAntisymmetric a.parent b.parent parents in let other = slice_cmp-IsAntisymmetric nat_cmp-IsAntisymmetric a.name b.name names in λ i. record { parent = one i; name = other i }
+      | Greater ↦ λ _ wrong. cc
+    ] refl tied
+
+pub held : (b : Bool) → IsTrue b → T b
 held true is = tt
 held false is = cc
 
-told : (b : Bool) → T b → IsTrue b
+pub told : (b : Bool) → T b → IsTrue b
 told true is = refl
 told false is = absurd is
 

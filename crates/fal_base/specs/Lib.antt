@@ -5,6 +5,7 @@ pub mod EachOnce
 pub mod History
 pub mod Linear
 pub mod Listing
+pub mod Maps
 pub mod Names
 pub mod PathArgs
 pub mod Paths

@@ -1,5 +1,5 @@
 ghost use Rattle.std.specs.Prelude.{◌≡◌};
-ghost use Rattle.fal_base.specs.Tree.{key_cmp, same_key, root_key};
+ghost use Rattle.fal_base.specs.Tree.{key_cmp, key_of, same_key, root_key};
 
 use crate::memory::{Duplicate, OutOfMemory};
 use crate::name::Name;
@@ -11,6 +11,14 @@ use std::cmp::Ordering;
 pub struct Key {
     pub parent: u64,
     pub name: Name,
+}
+
+// How the key of this parent and this name stands to another key.
+#[tactic(auto, unfolding(crate::specs::Tree::key_cmp))]
+pub(crate) fn compare_parts(parent: u64, name: &Name, other: &Key) -> Ordering
+    ensures { result ≡ key_cmp (key_of parent name.now) other.now }
+{
+    parent.cmp(&other.parent).then(name.cmp(&other.name))
 }
 
 impl Key {
@@ -25,13 +33,10 @@ impl Key {
     }
 
     /// The order of keys: by the parent's number, and then by the bytes of the name.
-    #[tactic(auto, unfolding(crate::specs::Tree::key_cmp))]
     pub fn compare(&self, other: &Key) -> Ordering
         ensures { result ≡ key_cmp self.now other.now }
     {
-        self.parent
-            .cmp(&other.parent)
-            .then(self.name.cmp(&other.name))
+        compare_parts(self.parent, &self.name, other)
     }
 
     /// Whether both are one key.
