@@ -20,6 +20,8 @@ mod refuse;
 mod reply;
 mod row;
 mod rule;
+#[cfg(test)]
+mod tests;
 
 pub use barred::Barred;
 pub use call::{Call, CallId, CallRec, Config, Cred};
