@@ -1,0 +1,140 @@
+ghost use Rattle.std.specs.Prelude.{◌≡◌, ◌++◌, OnOk};
+ghost use Rattle.fal_report.specs.Calls.{names_text, path_text, path_op, number_word, mode_word, path_word, rule_text, place_op, op_text, call_text};
+
+use crate::bytes::{put, put_each_after, put_escaped};
+use crate::inodes::{put_mode, put_owner};
+use fal_base::{Call, Name, Op, OutOfMemory, PathArg, Rule};
+use std::io::Write;
+
+fn put_names(out: &mut Vec<u8>, names: &[Name]) -> Result<(), OutOfMemory>
+    ensures { OnOk result (out.new.items ≡ out.old.items ++ names_text names.now) }
+{
+    if names.is_empty() {
+        put(out, b"/")?;
+        return Ok(());
+    }
+    put_each_after(out, b'/', names)?;
+    Ok(())
+}
+
+fn put_path(out: &mut Vec<u8>, path: &PathArg) -> Result<(), OutOfMemory>
+    ensures { OnOk result (out.new.items ≡ out.old.items ++ path_text path.now) }
+{
+    match path {
+        PathArg::Good(path) => put_names(out, path.names())?,
+        PathArg::Bad { raw, .. } => put_escaped(out, raw.as_slice())?,
+    }
+    Ok(())
+}
+
+#[tactic(auto, unfolding(crate::specs::Calls::path_op))]
+fn put_path_op(out: &mut Vec<u8>, word: &[u8], path: &PathArg) -> Result<(), OutOfMemory>
+    ensures { OnOk result (out.new.items ≡ out.old.items ++ path_op word.now path.now) }
+{
+    put(out, word)?;
+    put(out, b" ")?;
+    put_path(out, path)?;
+    Ok(())
+}
+
+#[tactic(auto, unfolding(crate::specs::Calls::number_word))]
+fn put_number_word(out: &mut Vec<u8>, n: u64) -> Result<(), OutOfMemory>
+    ensures { OnOk result (out.new.items ≡ out.old.items ++ number_word n) }
+{
+    write!(out, " {n}").map_err(|_| OutOfMemory)
+}
+
+#[tactic(auto, unfolding(crate::specs::Calls::mode_word))]
+fn put_mode_word(out: &mut Vec<u8>, mode: u16) -> Result<(), OutOfMemory>
+    ensures { OnOk result (out.new.items ≡ out.old.items ++ mode_word mode) }
+{
+    put(out, b" ")?;
+    put_mode(out, mode)?;
+    Ok(())
+}
+
+#[tactic(auto, unfolding(crate::specs::Calls::path_word))]
+fn put_path_word(out: &mut Vec<u8>, path: &PathArg) -> Result<(), OutOfMemory>
+    ensures { OnOk result (out.new.items ≡ out.old.items ++ path_word path.now) }
+{
+    put(out, b" ")?;
+    put_path(out, path)?;
+    Ok(())
+}
+
+#[tactic(auto, unfolding(crate::specs::Calls::rule_text))]
+fn put_rule(out: &mut Vec<u8>, rule: Rule) -> Result<(), OutOfMemory>
+    ensures { OnOk result (out.new.items ≡ out.old.items ++ rule_text rule) }
+{
+    match rule {
+        Rule::Hash => put(out, b"hash"),
+        Rule::ByParent => put(out, b"parent"),
+        Rule::Node(node) => write!(out, "node:{node}").map_err(|_| OutOfMemory),
+    }
+}
+
+#[tactic(auto, unfolding(crate::specs::Calls::place_op))]
+fn put_place_op(out: &mut Vec<u8>, name: &Name, rule: Rule) -> Result<(), OutOfMemory>
+    ensures { OnOk result (out.new.items ≡ out.old.items ++ place_op name.now rule) }
+{
+    put(out, b"place ")?;
+    put_escaped(out, name.bytes())?;
+    put(out, b" ")?;
+    put_rule(out, rule)?;
+    Ok(())
+}
+
+fn put_op(out: &mut Vec<u8>, op: &Op) -> Result<(), OutOfMemory>
+    ensures { OnOk result (out.new.items ≡ out.old.items ++ op_text op.now) }
+{
+    match op {
+        Op::Mkdir { path, mode } => {
+            put_path_op(out, b"mkdir", path)?;
+            put_mode_word(out, *mode)
+        }
+        Op::Create { path, mode } => {
+            put_path_op(out, b"create", path)?;
+            put_mode_word(out, *mode)
+        }
+        Op::Stat { path } => put_path_op(out, b"stat", path),
+        Op::Access { path, want } => {
+            put_path_op(out, b"access", path)?;
+            put_number_word(out, u64::from(*want))
+        }
+        Op::Chmod { path, mode } => {
+            put_path_op(out, b"chmod", path)?;
+            put_mode_word(out, *mode)
+        }
+        Op::Chown { path, uid, gid } => {
+            put_path_op(out, b"chown", path)?;
+            put_number_word(out, u64::from(*uid))?;
+            put_number_word(out, u64::from(*gid))
+        }
+        Op::Truncate { path, size } => {
+            put_path_op(out, b"truncate", path)?;
+            put_number_word(out, *size)
+        }
+        Op::Unlink { path } => put_path_op(out, b"unlink", path),
+        Op::Rmdir { path } => put_path_op(out, b"rmdir", path),
+        Op::Rename { old, new } => {
+            put_path_op(out, b"rename", old)?;
+            put_path_word(out, new)
+        }
+        Op::List { path } => put_path_op(out, b"list", path),
+        Op::Place { name, rule } => put_place_op(out, name, *rule),
+    }
+}
+
+/// Appends a call: `UID:GID OP ARGUMENTS`, one space between words. Modes are three octal digits. A good path is its names, each after a
+/// slash, and `/` for the root; a bad path is its bytes as given. In paths and names the bytes 33 to 126 other than `%` stand for
+/// themselves, and every other byte is `%` and two upper case hexadecimal digits.
+///
+/// Refused for want of memory alone; what was there before then still begins the buffer.
+pub fn put_call(out: &mut Vec<u8>, call: &Call) -> Result<(), OutOfMemory>
+    ensures { OnOk result (out.new.items ≡ out.old.items ++ call_text call.now) }
+{
+    put_owner(out, call.cred.uid, call.cred.gid)?;
+    put(out, b" ")?;
+    put_op(out, &call.op)?;
+    Ok(())
+}
