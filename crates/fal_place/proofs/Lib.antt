@@ -1,0 +1,4 @@
+pub mod Carried
+pub mod Rising
+mod Rows
+pub mod Within

@@ -1,0 +1,101 @@
+ghost use Rattle.std.specs.Prelude.{◌≡◌, ◌≤◌, filter, find, length, fold, nat_lt, IfOk, OnOk};
+ghost use Rattle.std.specs.List.{list_any, position_or_len};
+ghost use Rattle.fal_place.specs.Placement.{same_name, rule_found, with_change, without_name};
+
+use fal_base::{Duplicate, Name, OutOfMemory, Rule, RuleChange};
+use std::alloc::Global;
+
+// A name's rule, which is Hash where none was set.
+pub(crate) fn rule_of(rules: &[RuleChange], name: &Name) -> Rule
+    ensures { result ≡ rule_found (find (λ change. same_name change.name name.now) rules.now) }
+{
+    let mut rest = rules;
+    while let Some((first, others)) = rest.split_first() {
+        if first.name == *name {
+            return first.rule;
+        }
+        rest = others;
+    }
+    Rule::Hash
+}
+
+// Whether a name has a rule.
+pub(crate) fn has_rule(rules: &[RuleChange], name: &Name) -> bool
+    ensures { result ≡ list_any (λ change. same_name change.name name.now) rules.now }
+{
+    rules.iter().any(|change| change.name == *name)
+}
+
+// The same rules, in their order.
+pub(crate) fn copied(rules: &Vec<RuleChange>) -> Result<Vec<RuleChange>, OutOfMemory>
+    ensures { IfOk result (λ copied. copied.items ≡ rules.now.items) }
+{
+    let mut copied = Vec::with_capacity(*rules.allocator(), rules.len())?;
+    for change in rules.as_slice() {
+        copied.push(change.copy()?)?;
+    }
+    Ok(copied)
+}
+
+// The rules set after a version, in their order.
+pub(crate) fn changes_since(
+    rules: &Vec<RuleChange>,
+    version: u32,
+) -> Result<Vec<RuleChange>, OutOfMemory>
+    ensures { IfOk result (λ late. late.items ≡ filter (λ change. nat_lt version change.version) rules.now.items) }
+{
+    let mut late = Vec::new(*rules.allocator());
+    for change in rules.as_slice() {
+        if version < change.version {
+            late.push(change.copy()?)?;
+        }
+    }
+    Ok(late)
+}
+
+// The place of the first rule of a later version, or the end.
+fn place_after(rules: &[RuleChange], version: u32) -> usize
+    ensures place { result ≡ position_or_len (λ rule. nat_lt version rule.version) rules.now }
+    ensures inside { result ≤ length rules.now }
+{
+    let mut place = 0;
+    let mut rest = rules;
+    while let Some((first, others)) = rest.split_first() {
+        if version < first.version {
+            return place;
+        }
+        place += 1;
+        rest = others;
+    }
+    place
+}
+
+// Takes out the rule of a name, if it has one.
+fn remove_name(rules: &mut Vec<RuleChange>, name: &Name)
+    ensures { rules.new.items ≡ without_name name.now rules.old.items }
+{
+    rules.retain(|rule| rule.name != *name);
+}
+
+// Sets a rule, in place of its name's earlier one.
+pub(crate) fn set_rule(rules: &mut Vec<RuleChange>, change: RuleChange) -> Result<(), OutOfMemory>
+    ensures { OnOk result (rules.new.items ≡ with_change rules.old.items change) }
+{
+    remove_name(rules, &change.name);
+    let place = place_after(rules, change.version);
+    rules.insert(place, change)?;
+    Ok(())
+}
+
+// Sets these rules, in their order.
+pub(crate) fn set_rules(
+    rules: &mut Vec<RuleChange>,
+    changes: &[RuleChange],
+) -> Result<(), OutOfMemory>
+    ensures { OnOk result (rules.new.items ≡ fold with_change rules.old.items changes.now) }
+{
+    for change in changes {
+        set_rule(rules, change.copy()?)?;
+    }
+    Ok(())
+}

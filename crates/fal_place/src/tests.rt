@@ -1,0 +1,73 @@
+use super::*;
+use fal_base::{Duplicate, Name, Rule};
+use std::alloc::Global;
+use std::process::Abort;
+use std::test::Fail;
+
+fn name(alloc: Global, byte: u8) -> Result<Name, Fail> {
+    Ok(Name::read(alloc, &[byte])?)
+}
+
+// The table of the next version, where the rule fits.
+fn placed(rt: &impl Abort, table: &Table, name: &Name, rule: Rule) -> Result<Table, WithFault> {
+    assert!(rt; table.version() < 5000 && table.fits(rule));
+    table.with(name, rule)
+}
+
+#[test]
+fn names_live_at_their_hash(rt: HostRuntime) -> Result<(), Fail> {
+    let table = Table::new(rt.alloc(), 3);
+    for (byte, node) in [(b'a', 1), (b'b', 1), (b'c', 0), (b'x', 2)] {
+        assert_eq!(rt; table.owner_at(1, &name(rt.alloc(), byte)?), node);
+    }
+    assert_eq!(rt; name_hash(b"foobar"), 0x85944171f73967e8);
+    Ok(())
+}
+
+fn table_with(rt: &impl Abort, alloc: Global, rules: &[(u8, Rule)]) -> Result<Table, Fail> {
+    let mut table = Table::new(alloc, 3);
+    for (byte, rule) in rules {
+        table = placed(rt, &table, &name(alloc, *byte)?, *rule)?;
+    }
+    Ok(table)
+}
+
+#[test]
+fn an_older_table_catches_up(rt: HostRuntime) -> Result<(), Fail> {
+    let rules = [
+        (b'x', Rule::Node(1)),
+        (b'c', Rule::Node(2)),
+        (b'x', Rule::Hash),
+    ];
+    let late = table_with(&rt, rt.alloc(), &rules)?.since(1)?;
+    let mut table = table_with(&rt, rt.alloc(), &rules[..1])?.copy()?;
+    assert!(rt; table.fits_all(&late));
+    table.take_changes(3, &late)?;
+    assert_eq!(rt; (table.version(), table.len(), late.len()), (3, 2, 2));
+    assert_eq!(rt; table.entry(&name(rt.alloc(), b'x')?), Rule::Hash);
+    Ok(())
+}
+
+#[test]
+fn a_full_table_takes_known_names_alone(rt: HostRuntime) -> Result<(), Fail> {
+    let mut table = Table::new(rt.alloc(), 2);
+    for k in 1..=1024 {
+        let text = format!(in rt.alloc(); "n{k}")?;
+        table = placed(
+            &rt,
+            &table,
+            &Name::read(rt.alloc(), text.as_bytes())?,
+            Rule::Hash,
+        )?;
+    }
+    let known = Name::read(rt.alloc(), b"n1")?;
+    let refused = placed(&rt, &table, &name(rt.alloc(), b'x')?, Rule::ByParent);
+    assert!(rt;
+        table.is_full_for(&name(rt.alloc(), b'x')?) && matches!(refused, Err(WithFault::Full))
+    );
+    assert_eq!(rt;
+        placed(&rt, &table, &known, Rule::ByParent)?.version(),
+        1025
+    );
+    Ok(())
+}
