@@ -1,0 +1,5 @@
+mod Dropped
+mod OnTree
+mod Steps
+mod TreeSteps
+pub mod WalkKeys
