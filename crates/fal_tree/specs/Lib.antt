@@ -1,0 +1,4 @@
+pub mod Applied
+pub mod Found
+pub mod Refused
+pub mod Walks
