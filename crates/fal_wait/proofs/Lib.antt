@@ -1,0 +1,4 @@
+pub mod Bounds
+pub mod Firsts
+mod Places
+mod Steps
