@@ -129,7 +129,7 @@ fn put_op(out: &mut Vec<u8>, op: &Op) -> Result<(), OutOfMemory>
 /// slash, and `/` for the root; a bad path is its bytes as given. In paths and names the bytes 33 to 126 other than `%` stand for
 /// themselves, and every other byte is `%` and two upper case hexadecimal digits.
 ///
-/// Refused for want of memory alone; what was there before then still begins the buffer.
+/// Refused for want of memory alone. The buffer may then have a part of the call.
 pub fn put_call(out: &mut Vec<u8>, call: &Call) -> Result<(), OutOfMemory>
     ensures { OnOk result (out.new.items ≡ out.old.items ++ call_text call.now) }
 {

@@ -12,7 +12,6 @@ mod rows;
 mod text;
 
 pub use calls::put_call;
-pub use counts::put_count;
 pub use text::{summary_of, text_of};
 
 #[cfg(test)]
