@@ -1,0 +1,8 @@
+pub mod Laws
+pub mod NumberLaws
+pub mod ListLaws
+pub mod FieldLaws
+pub mod RowLaws
+pub mod MessageLaws
+pub mod ReadingLaws
+pub mod Loop

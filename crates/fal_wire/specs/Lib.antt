@@ -1,0 +1,7 @@
+pub mod Format
+pub mod Gives
+pub mod Messages
+pub mod Names
+pub mod Numbers
+pub mod Ops
+pub mod Rows
