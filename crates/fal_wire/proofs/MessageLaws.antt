@@ -69,20 +69,43 @@ op_again end (op.List path) rest fits = made_again Op PathArg (λ path. op.List 
 op_again end (op.Place name rule) rest fits = made_again Op (List ℕ × Rule) (λ f. op.Place f.0 f.1) name_and_rule name_and_rule_laws (name, rule) end rest fits
 
 op_forms : AllByRecursion (IsBranch op_layout) op_branches
-op_forms =
-    (branch_law Op (PathArg × ℕ) op_layout 1 (λ f. op.Mkdir f.0 f.1) path_and_mode path_and_mode_laws (λ _. refl) (λ _ fits. fits) (λ _. refl),
-    (branch_law Op (PathArg × ℕ) op_layout 2 (λ f. op.Create f.0 f.1) path_and_mode path_and_mode_laws (λ _. refl) (λ _ fits. fits) (λ _. refl),
-    (branch_law Op PathArg op_layout 3 (λ path. op.Stat path) path_arg_field path_arg_laws (λ _. refl) (λ _ fits. fits) (λ _. refl),
-    (branch_law Op (PathArg × ℕ) op_layout 4 (λ f. op.Access f.0 f.1) path_and_want path_and_want_laws (λ _. refl) (λ _ fits. fits) (λ _. refl),
-    (branch_law Op (PathArg × ℕ) op_layout 5 (λ f. op.Chmod f.0 f.1) path_and_mode path_and_mode_laws (λ _. refl) (λ _ fits. fits) (λ _. refl),
-    (branch_law Op (PathArg × (ℕ × ℕ)) op_layout 6 (λ f. op.Chown f.0 f.1.0 f.1.1) path_and_owner path_and_owner_laws (λ _. refl) (λ _ fits. fits) (λ _. refl),
-    (branch_law Op (PathArg × ℕ) op_layout 7 (λ f. op.Truncate f.0 f.1) path_and_size path_and_size_laws (λ _. refl) (λ _ fits. fits) (λ _. refl),
-    (branch_law Op PathArg op_layout 8 (λ path. op.Unlink path) path_arg_field path_arg_laws (λ _. refl) (λ _ fits. fits) (λ _. refl),
-    (branch_law Op PathArg op_layout 9 (λ path. op.Rmdir path) path_arg_field path_arg_laws (λ _. refl) (λ _ fits. fits) (λ _. refl),
-    (branch_law Op (PathArg × PathArg) op_layout 10 (λ f. op.Rename f.0 f.1) two_paths two_paths_laws (λ _. refl) (λ _ fits. fits) (λ _. refl),
-    (branch_law Op PathArg op_layout 11 (λ path. op.List path) path_arg_field path_arg_laws (λ _. refl) (λ _ fits. fits) (λ _. refl),
-    (branch_law Op (List ℕ × Rule) op_layout 12 (λ f. op.Place f.0 f.1) name_and_rule name_and_rule_laws (λ _. refl) (λ _ fits. fits) (λ _. refl),
-    tt))))))))))))
+op_forms = (
+  branch_law Op (PathArg × ℕ) op_layout 1 (λ f. op.Mkdir f.0 f.1) path_and_mode path_and_mode_laws (λ _. refl) (λ _ fits. fits) (λ _. refl),
+  (
+    branch_law Op (PathArg × ℕ) op_layout 2 (λ f. op.Create f.0 f.1) path_and_mode path_and_mode_laws (λ _. refl) (λ _ fits. fits) (λ _. refl),
+    (
+      branch_law Op PathArg op_layout 3 (λ path. op.Stat path) path_arg_field path_arg_laws (λ _. refl) (λ _ fits. fits) (λ _. refl),
+      (
+        branch_law Op (PathArg × ℕ) op_layout 4 (λ f. op.Access f.0 f.1) path_and_want path_and_want_laws (λ _. refl) (λ _ fits. fits) (λ _. refl),
+        (
+          branch_law Op (PathArg × ℕ) op_layout 5 (λ f. op.Chmod f.0 f.1) path_and_mode path_and_mode_laws (λ _. refl) (λ _ fits. fits) (λ _. refl),
+          (
+            branch_law Op (PathArg × (ℕ × ℕ)) op_layout 6 (λ f. op.Chown f.0 f.1.0 f.1.1) path_and_owner path_and_owner_laws (λ _. refl) (λ _ fits. fits) (λ _. refl),
+            (
+              branch_law Op (PathArg × ℕ) op_layout 7 (λ f. op.Truncate f.0 f.1) path_and_size path_and_size_laws (λ _. refl) (λ _ fits. fits) (λ _. refl),
+              (
+                branch_law Op PathArg op_layout 8 (λ path. op.Unlink path) path_arg_field path_arg_laws (λ _. refl) (λ _ fits. fits) (λ _. refl),
+                (
+                  branch_law Op PathArg op_layout 9 (λ path. op.Rmdir path) path_arg_field path_arg_laws (λ _. refl) (λ _ fits. fits) (λ _. refl),
+                  (
+                    branch_law Op (PathArg × PathArg) op_layout 10 (λ f. op.Rename f.0 f.1) two_paths two_paths_laws (λ _. refl) (λ _ fits. fits) (λ _. refl),
+                    (
+                      branch_law Op PathArg op_layout 11 (λ path. op.List path) path_arg_field path_arg_laws (λ _. refl) (λ _ fits. fits) (λ _. refl),
+                      (
+                        branch_law Op (List ℕ × Rule) op_layout 12 (λ f. op.Place f.0 f.1) name_and_rule name_and_rule_laws (λ _. refl) (λ _ fits. fits) (λ _. refl),
+                        tt,
+                      ),
+                    ),
+                  ),
+                ),
+              ),
+            ),
+          ),
+        ),
+      ),
+    ),
+  ),
+)
 
 op_laws : Laws Op op_field
 unfolding op_field
@@ -178,23 +201,58 @@ message_again end fault (message.Install op version rule rows) rest fits = made_
 message_again end fault (message.Installed op node) rest fits = made_again Message (ℕ × ℕ) (λ f. message.Installed f.0 f.1) done_body done_body_laws (op, node) end rest fits
 
 pub message_forms : AllByRecursion (IsBranch message_layout) message_branches
-message_forms =
-    (branch_law Message CallRec message_layout 1 (λ call. message.Call call) call_field call_laws (λ _. refl) (λ _ fits. fits) (λ _. refl),
-    (branch_law Message (CallId × Reply) message_layout 2 (λ f. message.Reply f.0 f.1) reply_body reply_body_laws (λ _. refl) (λ _ fits. fits) (λ _. refl),
-    (branch_law Message (CallId × (ℕ × (ℕ × List RuleChange))) message_layout 3 (λ f. message.Stale f.0 f.1.0 f.1.1.0 f.1.1.1) stale_body stale_body_laws (λ _. refl) (λ _ fits. fits) (λ _. refl),
-    (branch_law Message (CallId × ℕ) message_layout 4 (λ f. message.Opened f.0 f.1) opened_body opened_body_laws (λ _. refl) (λ _ fits. fits) (λ _. refl),
-    (branch_law Message (CallId × (ℕ × ℕ)) message_layout 5 (λ f. message.ListAsk f.0 f.1.0 f.1.1) list_ask_body list_ask_body_laws (λ _. refl) (λ _ fits. fits) (λ _. refl),
-    (branch_law Message (CallId × (ℕ × List (List ℕ))) message_layout 6 (λ f. message.ListPart f.0 f.1.0 f.1.1) list_part_body list_part_body_laws (λ _. refl) (λ _ fits. fits) (λ _. refl),
-    (branch_law Message (ℕ × (ℕ × Key)) message_layout 7 (λ f. message.FetchAsk f.0 f.1.0 f.1.1) fetch_ask_body fetch_ask_body_laws (λ _. refl) (λ _ fits. fits) (λ _. refl),
-    (branch_law Message (ℕ × (Key × Found)) message_layout 8 (λ f. message.FetchGot f.0 f.1.0 f.1.1) fetch_got_body fetch_got_body_laws (λ _. refl) (λ _ fits. fits) (λ _. refl),
-    (branch_law Message (ℕ × List Key) message_layout 9 (λ f. message.Lock f.0 f.1) lock_body lock_body_laws (λ _. refl) (λ _ fits. fits) (λ _. refl),
-    (branch_law Message (ℕ × (ℕ × List Update)) message_layout 10 (λ f. message.Locked f.0 f.1.0 f.1.1) locked_body locked_body_laws (λ _. refl) (λ _ fits. fits) (λ _. refl),
-    (branch_law Message (ℕ × ℕ) message_layout 11 (λ f. message.Count f.0 f.1) count_body count_body_laws (λ _. refl) (λ _ fits. fits) (λ _. refl),
-    (branch_law Message (ℕ × (ℕ × ℕ)) message_layout 12 (λ f. message.Counted f.0 f.1.0 f.1.1) counted_body counted_body_laws (λ _. refl) (λ _ fits. fits) (λ _. refl),
-    (branch_law Message (ℕ × List Update) message_layout 13 (λ f. message.Commit f.0 f.1) commit_body commit_body_laws (λ _. refl) (λ _ fits. fits) (λ _. refl),
-    (branch_law Message (ℕ × ℕ) message_layout 14 (λ f. message.Done f.0 f.1) done_body done_body_laws (λ _. refl) (λ _ fits. fits) (λ _. refl),
-    (branch_law Message (ℕ × List ℕ) message_layout 15 (λ f. message.Block f.0 f.1) block_body block_body_laws (λ _. refl) (λ _ fits. fits) (λ _. refl),
-    (branch_law Message (ℕ × (ℕ × List NamedRow)) message_layout 16 (λ f. message.Blocked f.0 f.1.0 f.1.1) blocked_body blocked_body_laws (λ _. refl) (λ _ fits. fits) (λ _. refl),
-    (branch_law Message (ℕ × (ℕ × (Rule × List NamedRow))) message_layout 17 (λ f. message.Install f.0 f.1.0 f.1.1.0 f.1.1.1) install_body install_body_laws (λ _. refl) (λ _ fits. fits) (λ _. refl),
-    (branch_law Message (ℕ × ℕ) message_layout 18 (λ f. message.Installed f.0 f.1) done_body done_body_laws (λ _. refl) (λ _ fits. fits) (λ _. refl),
-    tt))))))))))))))))))
+message_forms = (
+  branch_law Message CallRec message_layout 1 (λ call. message.Call call) call_field call_laws (λ _. refl) (λ _ fits. fits) (λ _. refl),
+  (
+    branch_law Message (CallId × Reply) message_layout 2 (λ f. message.Reply f.0 f.1) reply_body reply_body_laws (λ _. refl) (λ _ fits. fits) (λ _. refl),
+    (
+      branch_law Message (CallId × (ℕ × (ℕ × List RuleChange))) message_layout 3 (λ f. message.Stale f.0 f.1.0 f.1.1.0 f.1.1.1) stale_body stale_body_laws (λ _. refl) (λ _ fits. fits) (λ _. refl),
+      (
+        branch_law Message (CallId × ℕ) message_layout 4 (λ f. message.Opened f.0 f.1) opened_body opened_body_laws (λ _. refl) (λ _ fits. fits) (λ _. refl),
+        (
+          branch_law Message (CallId × (ℕ × ℕ)) message_layout 5 (λ f. message.ListAsk f.0 f.1.0 f.1.1) list_ask_body list_ask_body_laws (λ _. refl) (λ _ fits. fits) (λ _. refl),
+          (
+            branch_law Message (CallId × (ℕ × List (List ℕ))) message_layout 6 (λ f. message.ListPart f.0 f.1.0 f.1.1) list_part_body list_part_body_laws (λ _. refl) (λ _ fits. fits) (λ _. refl),
+            (
+              branch_law Message (ℕ × (ℕ × Key)) message_layout 7 (λ f. message.FetchAsk f.0 f.1.0 f.1.1) fetch_ask_body fetch_ask_body_laws (λ _. refl) (λ _ fits. fits) (λ _. refl),
+              (
+                branch_law Message (ℕ × (Key × Found)) message_layout 8 (λ f. message.FetchGot f.0 f.1.0 f.1.1) fetch_got_body fetch_got_body_laws (λ _. refl) (λ _ fits. fits) (λ _. refl),
+                (
+                  branch_law Message (ℕ × List Key) message_layout 9 (λ f. message.Lock f.0 f.1) lock_body lock_body_laws (λ _. refl) (λ _ fits. fits) (λ _. refl),
+                  (
+                    branch_law Message (ℕ × (ℕ × List Update)) message_layout 10 (λ f. message.Locked f.0 f.1.0 f.1.1) locked_body locked_body_laws (λ _. refl) (λ _ fits. fits) (λ _. refl),
+                    (
+                      branch_law Message (ℕ × ℕ) message_layout 11 (λ f. message.Count f.0 f.1) count_body count_body_laws (λ _. refl) (λ _ fits. fits) (λ _. refl),
+                      (
+                        branch_law Message (ℕ × (ℕ × ℕ)) message_layout 12 (λ f. message.Counted f.0 f.1.0 f.1.1) counted_body counted_body_laws (λ _. refl) (λ _ fits. fits) (λ _. refl),
+                        (
+                          branch_law Message (ℕ × List Update) message_layout 13 (λ f. message.Commit f.0 f.1) commit_body commit_body_laws (λ _. refl) (λ _ fits. fits) (λ _. refl),
+                          (
+                            branch_law Message (ℕ × ℕ) message_layout 14 (λ f. message.Done f.0 f.1) done_body done_body_laws (λ _. refl) (λ _ fits. fits) (λ _. refl),
+                            (
+                              branch_law Message (ℕ × List ℕ) message_layout 15 (λ f. message.Block f.0 f.1) block_body block_body_laws (λ _. refl) (λ _ fits. fits) (λ _. refl),
+                              (
+                                branch_law Message (ℕ × (ℕ × List NamedRow)) message_layout 16 (λ f. message.Blocked f.0 f.1.0 f.1.1) blocked_body blocked_body_laws (λ _. refl) (λ _ fits. fits) (λ _. refl),
+                                (
+                                  branch_law Message (ℕ × (ℕ × (Rule × List NamedRow))) message_layout 17 (λ f. message.Install f.0 f.1.0 f.1.1.0 f.1.1.1) install_body install_body_laws (λ _. refl) (λ _ fits. fits) (λ _. refl),
+                                  (
+                                    branch_law Message (ℕ × ℕ) message_layout 18 (λ f. message.Installed f.0 f.1) done_body done_body_laws (λ _. refl) (λ _ fits. fits) (λ _. refl),
+                                    tt,
+                                  ),
+                                ),
+                              ),
+                            ),
+                          ),
+                        ),
+                      ),
+                    ),
+                  ),
+                ),
+              ),
+            ),
+          ),
+        ),
+      ),
+    ),
+  ),
+)

@@ -26,9 +26,9 @@ high_is p a b c d low_c low_d e =
     elim (cases_lt a b) [
       | inl less ↦ let h : suc a * p ≤ b * p = mul-le-mul_right p (omega arith) in absurd (omega (arith, h))
       | inr more ↦ elim (cases_lt b a) [
-          | inl less ↦ let h : suc b * p ≤ a * p = mul-le-mul_right p (omega arith) in absurd (omega (arith, h))
-          | inr same ↦ omega arith
-        ]
+        | inl less ↦ let h : suc b * p ≤ a * p = mul-le-mul_right p (omega arith) in absurd (omega (arith, h))
+        | inr same ↦ omega arith
+      ]
     ]
 
 -- bytes of one length that make one number are the same

@@ -32,9 +32,10 @@ kind_again end DirKind rest fits = refl
 
 kind_laws : Laws Kind kind_field
 unfolding kind_field
-kind_laws = tagged_laws Kind kind_layout kind_branches
-    (branch_law Kind (Unit {0}) kind_layout 0 (λ _. FileKind) nothing nothing_laws (λ _. refl) (λ _ fits. fits) (λ _. refl),
-    (branch_law Kind (Unit {0}) kind_layout 1 (λ _. DirKind) nothing nothing_laws (λ _. refl) (λ _ fits. fits) (λ _. refl), tt))
+kind_laws = tagged_laws Kind kind_layout kind_branches (
+  branch_law Kind (Unit {0}) kind_layout 0 (λ _. FileKind) nothing nothing_laws (λ _. refl) (λ _ fits. fits) (λ _. refl),
+  (branch_law Kind (Unit {0}) kind_layout 1 (λ _. DirKind) nothing nothing_laws (λ _. refl) (λ _ fits. fits) (λ _. refl), tt),
+)
     kind_again
 
 pub inode_laws : Laws Inode inode_field
@@ -54,9 +55,10 @@ row_again end (Some inode) rest fits = made_again (Option Inode) Inode (λ i. So
 
 row_laws : Laws (Option Inode) row_field
 unfolding row_field
-row_laws = tagged_laws (Option Inode) row_layout row_branches
-    (branch_law (Option Inode) (Unit {0}) row_layout 0 (λ _. None) nothing nothing_laws (λ _. refl) (λ _ fits. fits) (λ _. refl),
-    (branch_law (Option Inode) Inode row_layout 1 (λ i. Some i) inode_field inode_laws (λ _. refl) (λ _ fits. fits) (λ _. refl), tt))
+row_laws = tagged_laws (Option Inode) row_layout row_branches (
+  branch_law (Option Inode) (Unit {0}) row_layout 0 (λ _. None) nothing nothing_laws (λ _. refl) (λ _ fits. fits) (λ _. refl),
+  (branch_law (Option Inode) Inode row_layout 1 (λ i. Some i) inode_field inode_laws (λ _. refl) (λ _ fits. fits) (λ _. refl), tt),
+)
     row_again
 
 update_laws : Laws Update update_field
@@ -95,10 +97,13 @@ rule_again end (Node n) rest fits = made_again Rule ℕ (λ n. Node n) (number 2
 
 pub rule_laws : Laws Rule rule_field
 unfolding rule_field
-rule_laws = tagged_laws Rule rule_layout rule_branches
-    (branch_law Rule (Unit {0}) rule_layout 0 (λ _. Hash) nothing nothing_laws (λ _. refl) (λ _ fits. fits) (λ _. refl),
-    (branch_law Rule (Unit {0}) rule_layout 1 (λ _. ByParent) nothing nothing_laws (λ _. refl) (λ _ fits. fits) (λ _. refl),
-    (branch_law Rule ℕ rule_layout 2 (λ n. Node n) (number 2) (number_laws 2) (λ _. refl) (λ _ fits. fits) (λ _. refl), tt)))
+rule_laws = tagged_laws Rule rule_layout rule_branches (
+  branch_law Rule (Unit {0}) rule_layout 0 (λ _. Hash) nothing nothing_laws (λ _. refl) (λ _ fits. fits) (λ _. refl),
+  (
+    branch_law Rule (Unit {0}) rule_layout 1 (λ _. ByParent) nothing nothing_laws (λ _. refl) (λ _ fits. fits) (λ _. refl),
+    (branch_law Rule ℕ rule_layout 2 (λ n. Node n) (number 2) (number_laws 2) (λ _. refl) (λ _ fits. fits) (λ _. refl), tt),
+  ),
+)
     rule_again
 
 next_version_laws : (last : Option RuleChange) → Laws ℕ (next_version last)
@@ -125,10 +130,13 @@ found_again end (Dir dentry) rest fits = made_again Found Dentry (λ d. Dir d) d
 
 pub found_laws : Laws Found found_field
 unfolding found_field
-found_laws = tagged_laws Found found_layout found_branches
-    (branch_law Found (Unit {0}) found_layout 0 (λ _. Nothing) nothing nothing_laws (λ _. refl) (λ _ fits. fits) (λ _. refl),
-    (branch_law Found (Unit {0}) found_layout 1 (λ _. File) nothing nothing_laws (λ _. refl) (λ _ fits. fits) (λ _. refl),
-    (branch_law Found Dentry found_layout 2 (λ d. Dir d) dentry_field dentry_laws (λ _. refl) (λ _ fits. fits) (λ _. refl), tt)))
+found_laws = tagged_laws Found found_layout found_branches (
+  branch_law Found (Unit {0}) found_layout 0 (λ _. Nothing) nothing nothing_laws (λ _. refl) (λ _ fits. fits) (λ _. refl),
+  (
+    branch_law Found (Unit {0}) found_layout 1 (λ _. File) nothing nothing_laws (λ _. refl) (λ _ fits. fits) (λ _. refl),
+    (branch_law Found Dentry found_layout 2 (λ d. Dir d) dentry_field dentry_laws (λ _. refl) (λ _ fits. fits) (λ _. refl), tt),
+  ),
+)
     found_again
 
 errno_again : (end : ℕ) (x : Errno) (rest : List ℕ) → errno_field.Fits x → errno_field.read end (errno_field.spell x ++ rest) ≡ Ok (x, rest)
@@ -175,9 +183,25 @@ errno_spelling Eperm = refl
 
 errno_laws : Laws Errno errno_field
 unfolding errno_field
-errno_laws = tagged_laws Errno errno_layout errno_branches
-    (errno_law 1 Eacces refl, (errno_law 2 Ebusy refl, (errno_law 3 Eexist refl, (errno_law 4 Einval refl, (errno_law 5 Eisdir refl, (errno_law 6 Enametoolong refl,
-    (errno_law 7 Enoent refl, (errno_law 8 Enospc refl, (errno_law 9 Enotdir refl, (errno_law 10 Enotempty refl, (errno_law 11 Eperm refl, tt)))))))))))
+errno_laws = tagged_laws Errno errno_layout errno_branches (
+  errno_law 1 Eacces refl,
+  (
+    errno_law 2 Ebusy refl,
+    (
+      errno_law 3 Eexist refl,
+      (
+        errno_law 4 Einval refl,
+        (
+          errno_law 5 Eisdir refl,
+          (
+            errno_law 6 Enametoolong refl,
+            (errno_law 7 Enoent refl, (errno_law 8 Enospc refl, (errno_law 9 Enotdir refl, (errno_law 10 Enotempty refl, (errno_law 11 Eperm refl, tt))))),
+          ),
+        ),
+      ),
+    ),
+  ),
+)
     errno_again
 
 reply_again : (end : ℕ) (x : Reply) (rest : List ℕ) → reply_field.Fits x → reply_field.read end (reply_field.spell x ++ rest) ≡ Ok (x, rest)
@@ -189,8 +213,11 @@ reply_again end (Names names) rest fits = absurd fits
 
 pub reply_laws : Laws Reply reply_field
 unfolding reply_field
-reply_laws = tagged_laws Reply reply_layout reply_branches
-    (branch_law Reply (Unit {0}) reply_layout 0 (λ _. Fine) nothing nothing_laws (λ _. refl) (λ _ fits. fits) (λ _. refl),
-    (branch_law Reply Errno reply_layout 1 (λ e. Fail e) errno_field errno_laws (λ _. refl) (λ _ fits. fits) (λ _. refl),
-    (branch_law Reply Inode reply_layout 2 (λ i. Stat i) inode_field inode_laws (λ _. refl) (λ _ fits. fits) (λ _. refl), tt)))
+reply_laws = tagged_laws Reply reply_layout reply_branches (
+  branch_law Reply (Unit {0}) reply_layout 0 (λ _. Fine) nothing nothing_laws (λ _. refl) (λ _ fits. fits) (λ _. refl),
+  (
+    branch_law Reply Errno reply_layout 1 (λ e. Fail e) errno_field errno_laws (λ _. refl) (λ _ fits. fits) (λ _. refl),
+    (branch_law Reply Inode reply_layout 2 (λ i. Stat i) inode_field inode_laws (λ _. refl) (λ _ fits. fits) (λ _. refl), tt),
+  ),
+)
     reply_again
