@@ -1,0 +1,10 @@
+pub mod Empty
+pub mod Fetches
+pub mod FreeCalls
+pub mod Joining
+pub mod KeyLists
+pub mod LastName
+pub mod Open
+pub mod Shared
+pub mod Truth
+pub mod Union

@@ -1,0 +1,4 @@
+pub mod Fate
+pub mod Keys
+pub mod Plan
+pub mod Seen

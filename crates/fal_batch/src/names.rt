@@ -1,0 +1,100 @@
+ghost use Rattle.std.specs.Prelude.{◌≡◌, IfOk};
+ghost use Rattle.std.specs.Option.{option_copied};
+ghost use Rattle.fal_dentry.specs.TreeWalk.{last_name, last_key as key_at};
+ghost use Rattle.fal_batch.specs.Fate.{good_names, op_names, last_of, is_blocked as is_name_blocked, goes_by_parent as by_parent};
+
+use fal_base::{Barred, Dentry, Duplicate, Key, Name, Op, OutOfMemory, Path, PathArg, Rule};
+use fal_place::Table;
+use std::alloc::Global;
+
+fn good_path(arg: &PathArg) -> Option<&Path>
+    ensures { option_copied result ≡ good_names arg.now }
+{
+    match arg {
+        PathArg::Good(path) => Some(path),
+        PathArg::Bad { .. } => None,
+    }
+}
+
+// The path of an op, where it has exactly one and that is good.
+pub(crate) fn path_of(op: &Op) -> Option<&Path>
+    ensures { option_copied result ≡ op_names op.now }
+{
+    match op {
+        Op::Mkdir { path, .. } => good_path(path),
+        Op::Create { path, .. } => good_path(path),
+        Op::Stat { path } => good_path(path),
+        Op::Access { path, .. } => good_path(path),
+        Op::Chmod { path, .. } => good_path(path),
+        Op::Chown { path, .. } => good_path(path),
+        Op::Truncate { path, .. } => good_path(path),
+        Op::Unlink { path } => good_path(path),
+        Op::Rmdir { path } => good_path(path),
+        Op::Rename { .. } => None,
+        Op::List { path } => good_path(path),
+        Op::Place { .. } => None,
+    }
+}
+
+// The last name of a path, if it has one.
+pub(crate) fn last_name_of(path: &Path) -> Option<&Name>
+    ensures { option_copied result ≡ last_of path.now }
+{
+    path.names().last()
+}
+
+// Whether the last name is blocked.
+pub(crate) fn is_blocked(blocked: &Barred, last: Option<&Name>) -> bool
+    ensures { result ≡ is_name_blocked blocked.now (option_copied last.entry) }
+{
+    let Some(name) = last else {
+        return false;
+    };
+    match blocked {
+        Barred::Nothing => false,
+        Barred::One(other) => *other == *name,
+        Barred::All => true,
+    }
+}
+
+// Whether the last name's keys live by the hash of parent and name.
+pub(crate) fn goes_by_parent(table: &Table, last: Option<&Name>) -> bool
+    ensures { result ≡ by_parent table.now (option_copied last.entry) }
+{
+    let Some(name) = last else {
+        return false;
+    };
+    match table.entry(name) {
+        Rule::Hash => false,
+        Rule::ByParent => true,
+        Rule::Node(_) => false,
+    }
+}
+
+// A copy of the last name of a path, or the root's name where it has none.
+#[tactic(auto, using(crate::proofs::LastName::last_is))]
+fn last_or_root(alloc: Global, path: &Path) -> Result<Name, OutOfMemory>
+    ensures { IfOk result (λ name. name ≡ last_name path.now) }
+{
+    match last_name_of(path) {
+        None => Ok(Name::root(alloc)),
+        Some(name) => name.copy(),
+    }
+}
+
+// The key of the path's last name under its directory, or the root's key where there is no directory.
+pub(crate) fn last_key(
+    alloc: Global,
+    parent: &Option<Dentry>,
+    path: &Path,
+) -> Result<Key, OutOfMemory>
+    ensures { IfOk result (λ key. key ≡ key_at parent.now (last_name path.now)) }
+{
+    let Some(dir) = parent else {
+        return Ok(Key::root(alloc));
+    };
+    Ok(Key {
+        parent: dir.ino,
+        name: last_or_root(alloc, path)?,
+    })
+}
