@@ -1,0 +1,5 @@
+mod Sent
+mod Moves
+mod Ranges
+mod Sorting
+pub mod Reading
