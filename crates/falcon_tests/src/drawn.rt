@@ -157,31 +157,71 @@ fn config(alloc: Global, calls: CallList) -> Result<Config, Fail> {
     })
 }
 
-#[test]
-fn the_plain_tree_answers_alike(rt: HostRuntime) -> Result<(), Fail> {
-    let alloc = rt.alloc();
+// The calls, by the same numbers in each run.
+fn drawn_calls(alloc: Global) -> Result<CallList, Fail> {
     let mut source = Lcg64Xsh32::new(7, 54);
-    let mut plain = Plain {
+    let mut calls = CallList::new(alloc);
+    for _ in 0..CALLS {
+        calls.push(call(alloc, &mut source)?)?;
+    }
+    Ok(calls)
+}
+
+fn put_line(script: &mut Vec<u8>, call: &Call) -> Result<(), Fail> {
+    script.extend_from_slice(b"1 ")?;
+    put_call(script, call)?;
+    script.push(b'\n')?;
+    Ok(())
+}
+
+fn script_of(alloc: Global, calls: &[Call]) -> Result<Vec<u8>, Fail> {
+    let mut script = Vec::from_slice(alloc, b"falcon-script 1\nnodes 1\nlanes 1\n")?;
+    for call in calls {
+        put_line(&mut script, call)?;
+    }
+    Ok(script)
+}
+
+fn opening(alloc: Global) -> Result<Plain, Fail> {
+    Ok(Plain {
         tree: PlainTree::new(alloc)?,
         entries: Vec::new(alloc),
         commits: 0,
         made: 0,
-    };
-    let mut calls = CallList::new(alloc);
-    let mut script = Vec::from_slice(alloc, b"falcon-script 1\nnodes 1\nlanes 1\n")?;
-    for seq in 1..CALLS + 1 {
-        let call = call(alloc, &mut source)?;
-        script.extend_from_slice(b"1 ")?;
-        put_call(&mut script, &call)?;
-        script.push(b'\n')?;
-        step(&mut plain, &call, seq)?;
-        calls.push(call)?;
+    })
+}
+
+fn plain_run(alloc: Global, calls: &[Call]) -> Result<Plain, Fail> {
+    let mut plain = opening(alloc)?;
+    let mut seq = 0u32;
+    for call in calls {
+        seq = seq.saturating_add(1);
+        step(&mut plain, call, seq)?;
     }
+    Ok(plain)
+}
+
+fn wanted(alloc: Global, calls: CallList, plain: &Plain) -> Result<Vec<u8>, Fail> {
     let config = config(alloc, calls)?;
-    let wanted = text_of(alloc, &config, &plain.entries, &plain.tree.lines()?)?;
-    let ran = run(alloc, &script)?;
+    let lines = plain.tree.lines()?;
+    Ok(text_of(alloc, &config, &plain.entries, &lines)?)
+}
+
+// What the plain tree makes of the calls, and the script of them.
+fn wanted_and_script(alloc: Global) -> Result<(Vec<u8>, Vec<u8>), Fail> {
+    let calls = drawn_calls(alloc)?;
+    let script = script_of(alloc, calls.as_slice())?;
+    let plain = plain_run(alloc, calls.as_slice())?;
+    let text = wanted(alloc, calls, &plain)?;
+    Ok((text, script))
+}
+
+#[test]
+fn the_plain_tree_answers_alike(rt: HostRuntime) -> Result<(), Fail> {
+    let (text, script) = wanted_and_script(rt.alloc())?;
+    let ran = run(rt.alloc(), &script)?;
     assert_eq!(rt; ran.status, 0);
-    assert!(rt; ran.text == wanted);
-    assert!(rt; plain.commits > 100);
+    assert!(rt; ran.text == text);
+    assert!(rt; text.len() > 100_000);
     Ok(())
 }
