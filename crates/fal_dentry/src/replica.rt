@@ -195,4 +195,42 @@ mod tests {
         assert!(rt; matches!(walk, Walk::Stop { .. }));
         Ok(())
     }
+
+    #[test]
+    fn names_the_first_directory_that_is_lacking(rt: HostRuntime) -> Result<(), Fail> {
+        let replica = replica_of_two(rt.alloc())?;
+        let path = Path::read(rt.alloc(), b"/c/d/e/f")?;
+        let gap = key(rt.alloc(), 1, b"c")?;
+        let walk = replica.walk(&Cred { uid: 5, gid: 5 }, &path, &[])?;
+        assert!(rt;
+            matches!(&walk, Walk::Missing { key, keys } if key.is_same(&gap) && keys.len() == 1)
+        );
+        Ok(())
+    }
+
+    #[test]
+    fn a_shut_key_ends_the_walk_before_it_is_looked_up(rt: HostRuntime) -> Result<(), Fail> {
+        let replica = replica_of_two(rt.alloc())?;
+        let other = Cred { uid: 7, gid: 7 };
+        let shut = vec![in rt.alloc(); key(rt.alloc(), 1, b"c")?, key(rt.alloc(), 1, b"a")?]?;
+        let there = Path::read(rt.alloc(), b"/a/b/c")?;
+        let walk = replica.walk(&other, &there, &shut)?;
+        assert!(rt; matches!(&walk, Walk::Shut { key } if key.is_same(&shut[1])));
+        let lacking = Path::read(rt.alloc(), b"/c/d/e")?;
+        let walk = replica.walk(&other, &lacking, &shut)?;
+        assert!(rt; matches!(&walk, Walk::Shut { key } if key.is_same(&shut[0])));
+        Ok(())
+    }
+
+    #[test]
+    fn drops_the_entries_of_these_keys_alone(rt: HostRuntime) -> Result<(), Fail> {
+        let mut replica = replica_of_two(rt.alloc())?;
+        let (a, root) = (key(rt.alloc(), 1, b"a")?, Key::root(rt.alloc()));
+        assert_eq!(rt; replica.find(1, &a.name).map(|dir| dir.ino), Some(2));
+        let keys = vec![in rt.alloc(); key(rt.alloc(), 1, b"c")?, a.copy()?]?;
+        replica.drop_keys(&keys);
+        assert!(rt; replica.get(&a).is_none());
+        assert_eq!(rt; replica.get(&root).map(|dir| dir.ino), Some(1));
+        Ok(())
+    }
 }

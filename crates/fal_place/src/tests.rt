@@ -15,12 +15,21 @@ fn placed(rt: &impl Abort, table: &Table, name: &Name, rule: Rule) -> Result<Tab
 }
 
 #[test]
-fn names_live_at_their_hash(rt: HostRuntime) -> Result<(), Fail> {
-    let table = Table::new(rt.alloc(), 3);
-    for (byte, node) in [(b'a', 1), (b'b', 1), (b'c', 0), (b'x', 2)] {
-        assert_eq!(rt; table.owner_at(1, &name(rt.alloc(), byte)?), node);
-    }
+fn hashes_are_those_of_fnv_1a(rt: HostRuntime) {
+    assert_eq!(rt; name_hash(b""), 0xcbf29ce484222325);
+    assert_eq!(rt; name_hash(b"a"), 0xaf63dc4c8601ec8c);
     assert_eq!(rt; name_hash(b"foobar"), 0x85944171f73967e8);
+}
+
+#[test]
+fn names_live_at_their_hash(rt: HostRuntime) -> Result<(), Fail> {
+    let two = Table::new(rt.alloc(), 2);
+    let three = Table::new(rt.alloc(), 3);
+    for (byte, of_two, of_three) in [(b'a', 0, 1), (b'b', 1, 1), (b'c', 0, 0), (b'x', 1, 2)] {
+        let name = name(rt.alloc(), byte)?;
+        assert_eq!(rt; two.owner_at(1, &name), of_two);
+        assert_eq!(rt; three.owner_at(1, &name), of_three);
+    }
     Ok(())
 }
 

@@ -2,6 +2,10 @@
 #![tactic(auto)]
 
 #[cfg(test)]
+mod digests;
+#[cfg(test)]
+mod drawn;
+#[cfg(test)]
 mod records;
 #[cfg(test)]
 mod table;

@@ -19,7 +19,7 @@ fn nibble(digit: u8) -> u8 {
 }
 
 // The rows of a table of hexadecimal digits.
-fn rows_of(alloc: Global, text: &str) -> Result<Vec<Vec<u8>>, AllocError> {
+pub fn rows_of(alloc: Global, text: &str) -> Result<Vec<Vec<u8>>, AllocError> {
     let mut rows = Vec::new(alloc);
     let mut row: Vec<u8> = Vec::new(alloc);
     let mut high = None;
@@ -55,7 +55,7 @@ fn answer(alloc: Global, bytes: &[u8]) -> (u8, usize) {
 }
 
 // What the message is written as.
-fn written(alloc: Global, message: &Message) -> Result<Vec<u8>, OutOfMemory>
+pub fn written(alloc: Global, message: &Message) -> Result<Vec<u8>, OutOfMemory>
     requires { Fits message.now }
 {
     let mut bytes = Vec::new(alloc);
@@ -99,25 +99,9 @@ fn are_answered(rt: &impl Abort, alloc: Global, text: &str) -> Result<(), AllocE
 
 #[test]
 fn rows_are_answered_as_listed(rt: HostRuntime) -> Result<(), Fail> {
-    are_answered(&rt, rt.alloc(), table::broken_forms())?;
-    are_answered(&rt, rt.alloc(), table::calls())?;
-    are_answered(&rt, rt.alloc(), table::replies())?;
-    are_answered(&rt, rt.alloc(), table::stales())?;
-    are_answered(&rt, rt.alloc(), table::openings())?;
-    are_answered(&rt, rt.alloc(), table::list_asks())?;
-    are_answered(&rt, rt.alloc(), table::list_parts())?;
-    are_answered(&rt, rt.alloc(), table::fetch_asks())?;
-    are_answered(&rt, rt.alloc(), table::fetches())?;
-    are_answered(&rt, rt.alloc(), table::locks())?;
-    are_answered(&rt, rt.alloc(), table::locked_rows())?;
-    are_answered(&rt, rt.alloc(), table::counts())?;
-    are_answered(&rt, rt.alloc(), table::counted_rows())?;
-    are_answered(&rt, rt.alloc(), table::commits())?;
-    are_answered(&rt, rt.alloc(), table::done_answers())?;
-    are_answered(&rt, rt.alloc(), table::blocks())?;
-    are_answered(&rt, rt.alloc(), table::blocked_rows())?;
-    are_answered(&rt, rt.alloc(), table::installs())?;
-    are_answered(&rt, rt.alloc(), table::installed_answers())?;
+    for text in table::answered() {
+        are_answered(&rt, rt.alloc(), text)?;
+    }
     Ok(())
 }
 
@@ -141,6 +125,44 @@ fn a_front_is_short_and_one_byte_more_is_trailing(rt: HostRuntime) -> Result<(),
     for row in rows.as_slice() {
         is_whole(&rt, rt.alloc(), row.as_slice())?;
     }
+    Ok(())
+}
+
+// Whether the bytes are read as Done of operation 7 by node 2.
+fn is_done(alloc: Global, bytes: &[u8]) -> bool {
+    match decode(alloc, bytes) {
+        Ok(message) => matches!(&message, Message::Done { op: 7, node: 2 }),
+        Err(_) => false,
+    }
+}
+
+// Whether node 2 asks, with number 1, for the key `a` under directory 1.
+fn asks_for_a(message: &Message) -> bool {
+    match message {
+        Message::FetchAsk {
+            asker: 2,
+            number: 1,
+            key,
+        } => key.parent == 1 && key.name.bytes() == b"a".as_slice(),
+        _ => false,
+    }
+}
+
+fn is_ask(alloc: Global, bytes: &[u8]) -> bool {
+    match decode(alloc, bytes) {
+        Ok(message) => asks_for_a(&message),
+        Err(_) => false,
+    }
+}
+
+#[test]
+fn worked_records_are_read_and_written_again(rt: HostRuntime) -> Result<(), Fail> {
+    let done = b"\x0e\x01\0\0\0\x05\0\0\0\x07\x02".as_slice();
+    assert!(rt; is_done(rt.alloc(), done));
+    assert!(rt; matches!(is_written_again(rt.alloc(), done), Ok(true)));
+    let ask = b"\x07\x01\0\0\0\x13\x02\0\0\0\0\0\0\0\x01\0\0\0\0\0\0\0\x01\x01a".as_slice();
+    assert!(rt; is_ask(rt.alloc(), ask));
+    assert!(rt; matches!(is_written_again(rt.alloc(), ask), Ok(true)));
     Ok(())
 }
 
@@ -172,74 +194,5 @@ fn a_path_has_at_most_4095_bytes(rt: HostRuntime) -> Result<(), Fail> {
     assert_eq!(rt; answer(rt.alloc(), longest.as_slice()), (0, 0));
     let longer = long_path(rt.alloc(), 28, 255)?;
     assert_eq!(rt; answer(rt.alloc(), longer.as_slice()), (4, 32));
-    Ok(())
-}
-
-fn draw(state: &mut u64) -> usize {
-    *state = state
-        .wrapping_mul(6364136223846793005)
-        .wrapping_add(1442695040888963407);
-    (*state >> 33) as usize
-}
-
-fn any_byte(state: &mut u64) -> u8 {
-    (draw(state) % 256) as u8
-}
-
-// A byte that formats are often wrong about, or any.
-fn telling_byte(state: &mut u64) -> u8 {
-    match draw(state) % 6 {
-        0 => 0,
-        1 => 1,
-        2 => 2,
-        3 => b'/',
-        4 => 255,
-        _ => any_byte(state),
-    }
-}
-
-// The sample, with one byte changed or none.
-fn changed(alloc: Global, sample: &[u8], state: &mut u64) -> Result<Vec<u8>, AllocError> {
-    let mut bytes = Vec::from_slice(alloc, sample)?;
-    let place = draw(state) % 96;
-    let byte = telling_byte(state);
-    if place < bytes.len() {
-        bytes[place] = byte;
-    }
-    Ok(bytes)
-}
-
-// A random body behind a right head.
-fn random_body(alloc: Global, state: &mut u64) -> Result<Vec<u8>, AllocError> {
-    let mut bytes = Vec::new(alloc);
-    bytes.push(any_byte(state) % 20)?;
-    let len = any_byte(state) % 40;
-    bytes.extend_from_slice(b"\x01\0\0\0")?;
-    bytes.push(len)?;
-    for _ in 0..len {
-        bytes.push(any_byte(state))?;
-    }
-    Ok(bytes)
-}
-
-fn made(alloc: Global, samples: &[Vec<u8>], state: &mut u64) -> Result<Vec<u8>, AllocError> {
-    match samples.get(draw(state) % 24) {
-        Some(sample) => changed(alloc, sample.as_slice(), state),
-        None => random_body(alloc, state),
-    }
-}
-
-#[test]
-fn random_records_are_refused_or_written_again(rt: HostRuntime) -> Result<(), Fail> {
-    let samples = rows_of(rt.alloc(), table::samples())?;
-    let mut state = 54;
-    for _ in 0..20_000 {
-        let bytes = made(rt.alloc(), samples.as_slice(), &mut state)?;
-        assert!(rt;
-            is_written_again(rt.alloc(), bytes.as_slice())
-                .ok()
-                .ok_or("memory")?
-        );
-    }
     Ok(())
 }
