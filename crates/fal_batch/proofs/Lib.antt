@@ -6,5 +6,6 @@ pub mod KeyLists
 pub mod LastName
 pub mod Open
 pub mod Shared
+pub mod Skipped
 pub mod Truth
 pub mod Union

@@ -1,4 +1,5 @@
 pub mod Fate
+pub mod Idle
 pub mod Keys
 pub mod Plan
 pub mod Seen

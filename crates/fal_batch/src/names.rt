@@ -1,4 +1,4 @@
-ghost use Rattle.std.specs.Prelude.{◌≡◌, IfOk};
+ghost use Rattle.std.specs.Prelude.{◌≡◌, [], IfOk};
 ghost use Rattle.std.specs.Option.{option_copied};
 ghost use Rattle.fal_dentry.specs.TreeWalk.{last_name, last_key as key_at};
 ghost use Rattle.fal_batch.specs.Fate.{good_names, op_names, last_of, is_blocked as is_name_blocked, goes_by_parent as by_parent};
@@ -79,6 +79,18 @@ fn last_or_root(alloc: Global, path: &Path) -> Result<Name, OutOfMemory>
     match last_name_of(path) {
         None => Ok(Name::root(alloc)),
         Some(name) => name.copy(),
+    }
+}
+
+// The last name of a path, or this name of the root where it has none. Takes no memory.
+#[tactic(auto, using(crate::proofs::LastName::last_is))]
+pub(crate) fn last_or<'a>(path: &'a Path, root: &'a Name) -> &'a Name
+    requires { root.now ≡ [] }
+    ensures { result.now ≡ last_name path.now }
+{
+    match last_name_of(path) {
+        None => root,
+        Some(name) => name,
     }
 }
 

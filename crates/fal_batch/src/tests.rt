@@ -41,6 +41,7 @@ fn a_call_waits_for_the_root_and_then_joins(rt: HostRuntime) -> Result<(), Fail>
     assert_eq!(rt; cold.fetches.len(), 1);
     assert_eq!(rt; cold.sends.len(), 1);
     assert!(rt; cold.calls.is_empty());
+    assert!(rt; !is_plan_idle(alloc, &waiting, &replica, &locks, &table, 0, &open, 0));
     replica.reserve(1)?;
     let root = Dentry {
         ino: 1,
@@ -55,5 +56,7 @@ fn a_call_waits_for_the_root_and_then_joins(rt: HostRuntime) -> Result<(), Fail>
     assert_eq!(rt; warm.keys.len(), 2, "the root and /a");
     let other = plan(alloc, &waiting, &replica, &locks, &table, 0, &open, 0)?;
     assert!(rt; other.calls.is_empty(), "a batch of no calls");
+    assert!(rt; !is_plan_idle(alloc, &waiting, &replica, &locks, &table, 0, &open, 1));
+    assert!(rt; is_plan_idle(alloc, &waiting, &replica, &locks, &table, 0, &open, 0));
     Ok(())
 }

@@ -53,6 +53,8 @@ fn each_call_is_taken_once_and_in_order(rt: HostRuntime) -> Result<(), Fail> {
     assert_eq!(rt; waiting.free()?.as_slice(), [0, 1, 2].as_slice());
     assert_eq!(rt; waiting.free_at(2), Some(2));
     assert_eq!(rt; waiting.free_at(3), None);
+    assert_eq!(rt; waiting.free_count(), 3);
+    assert_eq!(rt; waiting.last_fetch(), None);
     assert_eq!(rt; waiting.call(1).map(|call| call.id.attempt), Some(2));
     assert_eq!(rt; waiting.remove(1).map(|call| call.id.attempt), Some(2));
     assert!(rt; waiting.remove(1).is_none());
@@ -76,6 +78,8 @@ fn a_late_call_has_a_fetch_of_its_own(rt: HostRuntime) -> Result<(), Fail> {
     assert_eq!(rt; late.as_slice(), [1].as_slice());
     assert_eq!(rt; waiting.open_fetch(Key::root(alloc), late), 1);
     assert_eq!(rt; waiting.free_at(0), None);
+    assert_eq!(rt; waiting.free_count(), 0);
+    assert_eq!(rt; waiting.last_fetch(), Some(1));
     assert_eq!(rt; waiting.settle(0).map(|fetch| fetch.waiters.len()), Some(1));
     assert_eq!(rt; waiting.free_at(0), Some(0));
     assert!(rt; waiting.settle(0).is_none());

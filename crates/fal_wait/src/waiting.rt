@@ -1,13 +1,15 @@
 ghost use Rattle.std.specs.Prelude.{◌≡◌, ◌≤◌, ◌<◌, ◌+◌, ◌-◌, ◌^◌, ◌==◌, IfOk, OnOk, length, slice_get};
 ghost use Rattle.std.specs.Option.{option_copied, option_map};
 ghost use Rattle.fal_wait.specs.Lists.{IsPartOf};
-ghost use Rattle.fal_wait.specs.Waiting.{no_calls, free_tickets, call_of, fetch_of, parts_of, told_by, after_admit, admit_answer, without_call, after_open, after_settle, after_cancel};
+ghost use Rattle.fal_wait.specs.Waiting.{no_calls, count_to, free_tickets, call_of, fetch_of, parts_of, told_by, is_taken, after_admit, admit_answer, without_call, after_open, after_settle, after_cancel};
 
 use crate::admit::Admit;
 use crate::mark::{Mark, id_mark};
 use crate::marks::{is_newer, last_mark, put_mark};
 use crate::pending_fetch::{Fetch, PendingFetch, take_fetch};
-use crate::waiting_call::{WaitingCall, bind_waiters, free_all, free_waiters, take_call};
+use crate::waiting_call::{
+    WaitingCall, bind_waiters, count_free, free_all, free_waiters, take_call,
+};
 use fal_base::{CallRec, Items, Key, OutOfMemory};
 use std::alloc::Global;
 use std::marker::Model;
@@ -59,6 +61,14 @@ impl Waiting {
         self.fetches.reserve(n)?;
         self.last.reserve(n)?;
         Ok(())
+    }
+
+    /// Whether `admit` would take the call.
+    pub fn takes(&self, call: &CallRec) -> bool
+        ensures { result ≡ is_taken self.now.list call.now }
+    {
+        let mark = id_mark(&call.id);
+        is_newer(&mark, last_mark(&self.last, call.id.client))
     }
 
     /// Takes the call, with the next ticket. `Old` exactly where its number, attempt and hop are not above those of the last call that was
@@ -137,6 +147,13 @@ impl Waiting {
         }
     }
 
+    /// The pending fetch with this number. None exactly where the number is not pending.
+    pub fn fetch(&self, number: u64) -> Option<&PendingFetch>
+        ensures { option_copied result ≡ fetch_of self.now.list number }
+    {
+        self.fetches.iter().find(|fetch| fetch.number == number)
+    }
+
     /// Takes the call with this ticket out. None exactly where it is not there. A pending fetch keeps the waiters that it was opened with.
     pub fn remove(&mut self, ticket: u64) -> Option<CallRec>
         ensures call { result ≡ call_of self.old.list ticket }
@@ -206,6 +223,20 @@ impl Waiting {
                 })
             }
         }
+    }
+
+    /// The number of the last fetch that was opened. None exactly where none was.
+    pub fn last_fetch(&self) -> Option<u64>
+        ensures { count_to result ≡ self.now.list.opened }
+    {
+        self.last_fetch
+    }
+
+    /// How many calls have no pending fetch: as many as `free` gives tickets.
+    pub fn free_count(&self) -> usize
+        ensures { result ≡ length (free_tickets self.now.list) }
+    {
+        count_free(&self.calls)
     }
 
     /// No fetch is pending, and every call is free.

@@ -1,4 +1,4 @@
-ghost use Rattle.std.specs.Prelude.{◌≡◌, ◌==◌, ◌≤◌, ◌-◌, map, vec_len, vec_capacity};
+ghost use Rattle.std.specs.Prelude.{◌≡◌, ◌==◌, ◌≤◌, ◌-◌, map, count_by, is_none, vec_len, vec_capacity};
 ghost use Rattle.std.specs.List.{position, find};
 ghost use Rattle.fal_wait.specs.Lists.{without_first, has_number as number_among};
 ghost use Rattle.fal_wait.specs.Waiting.{on_fetch, off_fetch, unbound};
@@ -84,4 +84,17 @@ pub(crate) fn free_all(calls: &mut [WaitingCall])
     for waiting in calls.iter_mut() {
         waiting.fetch = None;
     }
+}
+
+// How many calls have no pending fetch.
+pub(crate) fn count_free(calls: &[WaitingCall]) -> usize
+    ensures { result ≡ count_by (λ w. is_none w.fetch) calls.now }
+{
+    let mut count = 0;
+    for waiting in calls {
+        if waiting.fetch.is_none() {
+            count += 1;
+        }
+    }
+    count
 }

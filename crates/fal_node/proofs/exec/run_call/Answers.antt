@@ -1,0 +1,80 @@
+use Rattle.std.proofs.Common.{◌≡◌, ◌+◌, ◌*◌, [], ◌∷◌, ◌++◌, sym, ap, ◌∙◌, arith}
+use Rattle.fal_base.specs.declared.event.Note.TheVariants as note
+use Rattle.fal_exec.specs.declared.outcome.Change.TheVariants as change
+use Rattle.fal_node.specs.declared.letter.Letter.{Letter}
+use Rattle.fal_node.specs.Letters.{commits_in}
+use Rattle.fal_node.specs.Exec.{number_after, call_outcome, answer_letter, draws, noted_number, exec_as}
+use Rattle.fal_node.specs.Patch.{rows_changed}
+use Rattle.fal_node.proofs.Runs.{work_of, commits_in-push, run_keep, run_put, run_remove, exec_one_is}
+use Rattle.fal_node.proofs.exec.run_call.Goals as goal
+
+pub answer_letter-requires : goal.answer_letter-requires
+answer_letter-requires c =
+    let n = c.args.node.now.state in
+    let r = c.args.run.now in
+    let os = c.outcome-outcome.ensures ∙ ap (λ cs. call_outcome n.number (rows_changed n.rows cs) (n.drawn + r.drawn) c.args.planned.now) c.deref.ensures.value in
+    λ passes. c.requires.hop (sym os ∙ passes)
+
+pub returns-in-Keep-clause-work : goal.returns-in-Keep-clause-work
+returns-in-Keep-clause-work c =
+    let n = c.args.node.now.state in
+    let r = c.args.run.now in
+    let p = c.args.planned.now in
+    let out = c.outcome-outcome.result in
+    let ls = c.in_ok-push.ensures.items ∙ ap (λ (l : Letter). r.letters.items ++ l ∷ []) c.in_ok-letter.ensures in
+    let os = c.outcome-outcome.ensures ∙ ap (λ cs. call_outcome n.number (rows_changed n.rows cs) (n.drawn + r.drawn) p) c.deref.ensures.value in
+    ap (λ xs. work_of n r.batch r.changes.items r.drawn xs r.notes.items) ls
+    ∙ run_keep n r.batch r.drawn r.commits r.changes.items r.letters.items r.notes.items p out (sym c.in-Keep.ensures) c.requires.commits
+    ∙ ap (λ o. exec_as (work_of n r.batch r.changes.items r.drawn r.letters.items r.notes.items) p o) os
+    ∙ sym (exec_one_is n r.batch r.drawn r.changes.items r.letters.items r.notes.items p)
+
+pub returns-in-Put-clause-work : goal.returns-in-Put-clause-work
+returns-in-Put-clause-work c =
+    let n = c.args.node.now.state in
+    let r = c.args.run.now in
+    let p = c.args.planned.now in
+    let out = c.outcome-outcome.result in
+    let put = c.in_ok-put_row-in-Put.ensures in
+    let ls = put.letters ∙ c.in_ok-push.ensures.items ∙ ap (λ (l : Letter). r.letters.items ++ l ∷ []) c.in_ok-letter.ensures in
+    let os = c.outcome-outcome.ensures ∙ ap (λ cs. call_outcome n.number (rows_changed n.rows cs) (n.drawn + r.drawn) p) c.deref.ensures.value in
+    let d : c.node.inside.drawn ≡ n.drawn = ap (λ s. s.state.drawn) c.node.view_is in
+    let near : c.from.result ≡ c.node.inside.number = omega arith in
+    let m : c.from.result ≡ n.number = near ∙ ap (λ s. s.state.number) c.node.view_is in
+    let fresh : 256 * (c.node.inside.drawn + r.drawn + 1) + c.from.result ≡ number_after n.number (n.drawn + r.drawn) = λ i. 256 * (d i + r.drawn + 1) + m i in
+    let ns = put.notes ∙ ap (λ x. r.notes.items ++ note.Commit p.call.id.client p.call.id.seq (noted_number p.call.op x) ∷ []) fresh in
+    let same : work_of n c.put_row.new.run.batch c.put_row.new.run.changes.items c.put_row.new.run.drawn c.put_row.new.run.letters.items c.put_row.new.run.notes.items
+    ≡ work_of n r.batch (r.changes.items ++ record { key = p.last; change = change.Put c.in-Put.inode } ∷ []) (r.drawn + draws p.call.op) (r.letters.items ++ answer_letter p.call r.commits out ∷ [])
+    (r.notes.items ++ note.Commit p.call.id.client p.call.id.seq (noted_number p.call.op (number_after n.number (n.drawn + r.drawn))) ∷ [])
+    = λ i. work_of n (put.batch i) (put.changes i) (put.drawn i) (ls i) (ns i) in
+    same
+    ∙ run_put n r.batch r.drawn r.commits r.changes.items r.letters.items r.notes.items p out c.in-Put.inode (sym c.in-Put.ensures) c.requires.commits
+    ∙ ap (λ o. exec_as (work_of n r.batch r.changes.items r.drawn r.letters.items r.notes.items) p o) os
+    ∙ sym (exec_one_is n r.batch r.drawn r.changes.items r.letters.items r.notes.items p)
+
+pub returns-in-Put-clause-commits : goal.returns-in-Put-clause-commits
+returns-in-Put-clause-commits c =
+    let put = c.in_ok-put_row-in-Put.ensures in
+    put.commits ∙ ap (λ k. k + 1) c.requires.commits ∙ sym (commits_in-push c.args.run.now.notes.items _ _ _) ∙ ap commits_in (sym put.notes)
+
+pub returns-clause-work : goal.returns-clause-work
+returns-clause-work c =
+    let n = c.args.node.now.state in
+    let r = c.args.run.now in
+    let p = c.args.planned.now in
+    let out = c.outcome-outcome.result in
+    let gone = c.in_ok-remove_row-in-Remove.ensures in
+    let ls = gone.letters ∙ c.in_ok-push.ensures.items ∙ ap (λ (l : Letter). r.letters.items ++ l ∷ []) c.in_ok-letter.ensures in
+    let os = c.outcome-outcome.ensures ∙ ap (λ cs. call_outcome n.number (rows_changed n.rows cs) (n.drawn + r.drawn) p) c.deref.ensures.value in
+    let same : work_of n c.remove_row.new.run.batch c.remove_row.new.run.changes.items c.remove_row.new.run.drawn c.remove_row.new.run.letters.items c.remove_row.new.run.notes.items
+    ≡ work_of n r.batch (r.changes.items ++ record { key = p.last; change = change.Remove } ∷ []) r.drawn (r.letters.items ++ answer_letter p.call r.commits out ∷ [])
+    (r.notes.items ++ note.Commit p.call.id.client p.call.id.seq 0 ∷ [])
+    = λ i. work_of n (gone.batch i) (gone.changes i) (gone.drawn i) (ls i) (gone.notes i) in
+    same
+    ∙ run_remove n r.batch r.drawn r.commits r.changes.items r.letters.items r.notes.items p out (sym c.in-Remove.ensures) c.requires.commits
+    ∙ ap (λ o. exec_as (work_of n r.batch r.changes.items r.drawn r.letters.items r.notes.items) p o) os
+    ∙ sym (exec_one_is n r.batch r.drawn r.changes.items r.letters.items r.notes.items p)
+
+pub returns-clause-commits : goal.returns-clause-commits
+returns-clause-commits c =
+    let gone = c.in_ok-remove_row-in-Remove.ensures in
+    gone.commits ∙ ap (λ k. k + 1) c.requires.commits ∙ sym (commits_in-push c.args.run.now.notes.items _ _ _) ∙ ap commits_in (sym gone.notes)

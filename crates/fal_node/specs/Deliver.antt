@@ -1,0 +1,101 @@
+-- An envelope comes to a node.
+use Rattle.std.specs.Prelude.{ℕ, List, [], ◌∷◌, ◌++◌, Option, None, Some, Result, Ok, Err, is_some, if◌then◌else◌}
+use Rattle.fal_base.specs.declared.call.CallRec.{CallRec}
+use Rattle.fal_base.specs.declared.event.Envelope.{Envelope}
+use Rattle.fal_base.specs.declared.event.Point.TheVariants.{Carried}
+use Rattle.fal_base.specs.declared.inode.Dentry.{Dentry}
+use Rattle.fal_base.specs.declared.key.Key.{Key}
+use Rattle.fal_base.specs.declared.reply.Errno.{Errno}
+use Rattle.fal_base.specs.declared.reply.Errno.TheVariants.{Enoent, Enotdir}
+use Rattle.fal_base.specs.declared.reply.Reply.TheVariants.{Fail}
+use Rattle.fal_base.specs.Maps.{with_value}
+use Rattle.fal_exec.specs.RowCall.{row_names}
+use Rattle.fal_wait.specs.declared.pending_fetch.PendingFetch.{PendingFetch}
+use Rattle.fal_wait.specs.Waiting.{WaitList, call_of, fetch_of, after_admit, after_settle, without_call}
+use Rattle.fal_wire.specs.declared.fault.WireFault.{WireFault}
+use Rattle.fal_wire.specs.declared.message.Found.{Found}
+use Rattle.fal_wire.specs.declared.message.Found.TheVariants as found
+use Rattle.fal_wire.specs.declared.message.Message.{Message}
+use Rattle.fal_wire.specs.declared.message.Message.TheVariants as message
+use Rattle.fal_wire.specs.Messages.{reading}
+use Rattle.fal_node.specs.declared.letter.Letter.{Letter}
+use Rattle.fal_node.specs.State.{NodeState, with_item}
+use Rattle.fal_node.specs.Letters.{Work, begun, reply_letter}
+
+-- the call is admitted
+unfoldable pub admitted : NodeState → CallRec → NodeState
+admitted node call = record node { waiting = after_admit node.waiting call }
+
+-- a call that one row decides is admitted; a rmdir, rename or place is the coordinator's, and changes nothing
+abbrev pub take_call : NodeState → CallRec → NodeState
+take_call node call = if is_some (row_names call.op) then admitted node call else node
+
+-- the fetch is settled, and the directory is installed: its waiters are free
+unfoldable pub installed : NodeState → ℕ → Key → Dentry → NodeState
+installed node number key dentry =
+    record node {
+      waiting = after_settle node.waiting number;
+      replica = with_value node.replica key dentry;
+    }
+
+-- the calls with these tickets have left
+abbrev pub without_calls : WaitList → List ℕ → WaitList
+without_calls list [] = list
+without_calls list (ticket ∷ tickets) = without_calls (without_call list ticket) tickets
+
+-- the fetch is settled, and its waiters have left
+unfoldable pub emptied : NodeState → ℕ → List ℕ → NodeState
+emptied node number waiters = record node { waiting = without_calls (after_settle node.waiting number) waiters }
+
+abbrev pub refusal : Option CallRec → Errno → ℕ → List Letter
+refusal None errno point = []
+refusal (Some call) errno point = reply_letter call (Carried point) (Fail errno) ∷ []
+
+-- the answers to the waiters, in the order of their arrival, at the point that came with the record
+abbrev pub refusals : WaitList → Errno → ℕ → List ℕ → List Letter
+refusals list errno point [] = []
+refusals list errno point (ticket ∷ tickets) = refusal (call_of list ticket) errno point ++ refusals list errno point tickets
+
+-- nothing to walk through stands there, so each waiter leaves with this errno
+abbrev pub refuse : NodeState → ℕ → Errno → PendingFetch → Work
+refuse node point errno fetch =
+    record { node = emptied node fetch.number fetch.waiters; sent = refusals node.waiting errno point fetch.waiters; notes = [] }
+
+abbrev pub settle : NodeState → ℕ → Key → Found → PendingFetch → Work
+settle node point key (found.Dir dentry) fetch = begun (installed node fetch.number key dentry)
+settle node point key found.Nothing fetch = refuse node point Enoent fetch
+settle node point key found.File fetch = refuse node point Enotdir fetch
+
+-- a number that is not pending changes nothing
+abbrev pub settle_pending : NodeState → ℕ → Key → Found → Option PendingFetch → Work
+settle_pending node point key what None = begun node
+settle_pending node point key what (Some fetch) = settle node point key what fetch
+
+-- by the kind of the record
+abbrev pub take_message : NodeState → ℕ → Message → Work
+take_message node point (message.Call call) = begun (take_call node call)
+take_message node point (message.FetchAsk asker number key) = begun (with_item node (message.FetchAsk asker number key))
+take_message node point (message.FetchGot number key what) = settle_pending node point key what (fetch_of node.waiting number)
+take_message node point (message.Reply id reply) = begun node
+take_message node point (message.Stale id old new changes) = begun node
+take_message node point (message.Opened id dir) = begun node
+take_message node point (message.ListAsk id version dir) = begun node
+take_message node point (message.ListPart id from names) = begun node
+take_message node point (message.Lock op keys) = begun node
+take_message node point (message.Locked op from rows) = begun node
+take_message node point (message.Count op dir) = begun node
+take_message node point (message.Counted op from number) = begun node
+take_message node point (message.Commit op updates) = begun node
+take_message node point (message.Done op from) = begun node
+take_message node point (message.Block op name) = begun node
+take_message node point (message.Blocked op from rows) = begun node
+take_message node point (message.Install op version rule rows) = begun node
+take_message node point (message.Installed op from) = begun node
+
+-- bytes that are no record change nothing
+abbrev pub take_read : NodeState → ℕ → Result Message WireFault → Work
+take_read node point (Ok message) = take_message node point message
+take_read node point (Err fault) = begun node
+
+unfoldable pub delivered : NodeState → Envelope → Work
+delivered node envelope = take_read node envelope.point (reading envelope.bytes)

@@ -1,0 +1,14 @@
+pub mod State
+pub mod Letters
+pub mod Deliver
+pub mod Gather
+pub mod Sends
+pub mod Exec
+pub mod Serve
+pub mod Step
+pub mod Due
+pub mod Places
+pub mod Patch
+pub mod Ready
+pub mod Runs
+pub mod Sound

@@ -1,0 +1,143 @@
+//! An envelope comes to a node.
+
+ghost use Rattle.std.specs.Prelude.{◌≡◌, IfOk, OnErr, IsSome, is_some};
+ghost use Rattle.std.specs.Option.{ForSome};
+ghost use Rattle.fal_exec.specs.RowCall.{good_names, row_names};
+ghost use Rattle.fal_wire.specs.Messages.{reading};
+ghost use Rattle.fal_node.specs.declared.event.NodeEvent.TheVariants as NodeEvent;
+ghost use Rattle.fal_node.specs.Letters.{begun};
+ghost use Rattle.fal_node.specs.State.{with_item};
+ghost use Rattle.fal_node.specs.Deliver.{take_call as take_call_of, take_message as take_message_of, take_read};
+ghost use Rattle.fal_node.specs.Step.{is_node as is_node_of, node_step};
+ghost use Rattle.fal_node.specs.Ready.{Does, DoesOf, CanDraft};
+
+use crate::draft::{Draft, quiet_draft};
+use crate::node::Node;
+use crate::patch::Patch;
+use crate::settle::take_found;
+use fal_base::{Actor, CallRec, Envelope, Op, OutOfMemory, PathArg};
+use fal_wire::{Message, WireFault, decode};
+
+fn is_good(path: &PathArg) -> bool
+    ensures { result ≡ is_some (good_names path.now) }
+{
+    match path {
+        PathArg::Good(_) => true,
+        PathArg::Bad { .. } => false,
+    }
+}
+
+// Whether one row decides the operation.
+fn is_row_op(op: &Op) -> bool
+    ensures { result ≡ is_some (row_names op.now) }
+{
+    match op {
+        Op::Mkdir { path, .. } => is_good(path),
+        Op::Create { path, .. } => is_good(path),
+        Op::Stat { path } => is_good(path),
+        Op::Access { path, .. } => is_good(path),
+        Op::Chmod { path, .. } => is_good(path),
+        Op::Chown { path, .. } => is_good(path),
+        Op::Truncate { path, .. } => is_good(path),
+        Op::Unlink { path } => is_good(path),
+        Op::List { path } => is_good(path),
+        Op::Rmdir { .. } => false,
+        Op::Rename { .. } => false,
+        Op::Place { .. } => false,
+    }
+}
+
+// Nothing changes.
+fn nothing(node: &Node) -> Draft
+    ensures does { Does node.now.state (begun node.now.state) result }
+    ensures can { CanDraft node.now.state result.patch }
+{
+    quiet_draft(node.alloc, Patch::Nothing)
+}
+
+// Lets the call go.
+fn discard_call(call: CallRec) {
+    let _call = call;
+}
+
+// Lets the message go.
+fn discard_message(message: Message) {
+    let _message = message;
+}
+
+// A call comes. Only one that a row decides is for a node, and one that was taken before changes nothing.
+#[tactic(auto, unfolding(crate::specs::Deliver::admitted))]
+fn take_call(node: &Node, call: CallRec) -> Draft
+    ensures does { Does node.now.state (begun (take_call_of node.now.state call)) result }
+    ensures can { CanDraft node.now.state result.patch }
+{
+    if is_row_op(&call.op) && node.waiting.takes(&call) {
+        quiet_draft(node.alloc, Patch::Admit(call))
+    } else {
+        discard_call(call);
+        nothing(node)
+    }
+}
+
+// A record comes that is served later.
+fn keep(node: &Node, message: Message) -> Draft
+    ensures does { Does node.now.state (begun (with_item node.now.state message)) result }
+    ensures can { CanDraft node.now.state result.patch }
+{
+    quiet_draft(node.alloc, Patch::Keep(message))
+}
+
+// A message comes. One of a kind that is not for nodes changes nothing.
+fn take_message(node: &Node, point: u64, message: Message) -> Result<Draft, OutOfMemory>
+    ensures does { IfOk result (λ draft. Does node.now.state (take_message_of node.now.state point message) draft) }
+    ensures can { IfOk result (λ draft. CanDraft node.now.state draft.patch) }
+{
+    match message {
+        Message::Call(call) => Ok(take_call(node, call)),
+        Message::FetchAsk { asker, number, key } => {
+            Ok(keep(node, Message::FetchAsk { asker, number, key }))
+        }
+        Message::FetchGot { number, key, found } => take_found(node, number, point, key, found),
+        other => {
+            discard_message(other);
+            Ok(nothing(node))
+        }
+    }
+}
+
+// Bytes come. Those that are no record change nothing.
+fn take_bytes(node: &Node, point: u64, bytes: &[u8]) -> Result<Draft, OutOfMemory>
+    ensures does { IfOk result (λ draft. Does node.now.state (take_read node.now.state point (reading bytes.now)) draft) }
+    ensures can { IfOk result (λ draft. CanDraft node.now.state draft.patch) }
+{
+    match decode(node.alloc, bytes) {
+        Ok(message) => take_message(node, point, message),
+        Err(WireFault::OutOfMemory) => Err(OutOfMemory),
+        Err(_) => Ok(nothing(node)),
+    }
+}
+
+// Whether this is the node with the number.
+fn is_node(to: Actor, number: u8) -> bool
+    ensures { result ≡ is_node_of to number }
+{
+    match to {
+        Actor::Client(_) => false,
+        Actor::Node(node) => node == number,
+        Actor::Coord => false,
+    }
+}
+
+// An envelope comes. Only one that was sent to this node may.
+#[tactic(auto, unfolding(crate::specs::Step::node_step, crate::specs::Deliver::delivered))]
+pub(crate) fn deliver(node: &Node, envelope: &Envelope) -> Result<Option<Draft>, OutOfMemory>
+    ensures does { IfOk result (λ draft. DoesOf node.now.state (node_step node.now.state (NodeEvent.Deliver envelope.now)) draft) }
+    ensures can { IfOk result (λ draft. ForSome draft (λ d. CanDraft node.now.state d.patch)) }
+    ensures err { OnErr result (IsSome (node_step node.now.state (NodeEvent.Deliver envelope.now))) }
+{
+    if !is_node(envelope.to, node.number) {
+        return Ok(None);
+    }
+    let draft = take_bytes(node, envelope.point, envelope.bytes.as_slice())?;
+    Ok(Some(draft))
+}

@@ -1,0 +1,74 @@
+//! Room for what a step changes.
+
+ghost use Rattle.std.specs.Prelude.{◌≡◌, ◌≤◌, OnOk};
+ghost use Rattle.fal_node.specs.Ready.{HasRoom};
+
+use crate::node::Node;
+use crate::patch::Patch;
+use fal_base::OutOfMemory;
+
+impl Node {
+    fn make_room_for_call(&mut self) -> Result<(), OutOfMemory>
+        ensures state { self.new.state ≡ self.old.state }
+        ensures room { OnOk result (1 ≤ self.new.room.waiting) }
+    {
+        self.waiting.reserve(1)
+    }
+
+    fn make_room_for_item(&mut self) -> Result<(), OutOfMemory>
+        ensures state { self.new.state ≡ self.old.state }
+        ensures room { OnOk result (1 ≤ self.new.room.items) }
+    {
+        self.items.reserve(1)?;
+        Ok(())
+    }
+
+    fn make_room_for_dentry(&mut self) -> Result<(), OutOfMemory>
+        ensures state { self.new.state ≡ self.old.state }
+        ensures room { OnOk result (1 ≤ self.new.room.replica) }
+    {
+        self.replica.reserve(1)
+    }
+
+    fn make_room_for_rows(&mut self, rows: usize) -> Result<(), OutOfMemory>
+        ensures state { self.new.state ≡ self.old.state }
+        ensures room { OnOk result (rows ≤ self.new.room.rows) }
+    {
+        self.rows.reserve(rows)
+    }
+
+    // Room for so many fetches, and for a batch that holds so many keys.
+    fn make_room_to_gather(&mut self, fetches: usize, keys: usize) -> Result<(), OutOfMemory>
+        ensures state { self.new.state ≡ self.old.state }
+        ensures fetches { OnOk result (fetches ≤ self.new.room.waiting) }
+        ensures batch { OnOk result (1 ≤ self.new.room.batches) }
+        ensures holder { OnOk result (1 ≤ self.new.room.locks) }
+        ensures keys { OnOk result (keys ≤ self.new.room.locks) }
+    {
+        self.waiting.reserve(fetches)?;
+        self.locks.reserve(keys.max(1))?;
+        self.batches.reserve(1)?;
+        Ok(())
+    }
+
+    // Makes room for the change. The state stays as it was, whatever the answer.
+    pub(crate) fn make_room(&mut self, patch: &Patch) -> Result<(), OutOfMemory>
+        ensures state { self.new.state ≡ self.old.state }
+        ensures room { OnOk result (HasRoom self.new.room patch.now) }
+    {
+        match patch {
+            Patch::Nothing => Ok(()),
+            Patch::Admit(_) => self.make_room_for_call(),
+            Patch::Keep(_) => self.make_room_for_item(),
+            Patch::Install { .. } => self.make_room_for_dentry(),
+            Patch::Leave { .. } => Ok(()),
+            Patch::Gather { fetches, keys, .. } => self.make_room_to_gather(
+                fetches.len(),
+                keys.len(),
+            ),
+            Patch::Execute { changes, .. } => self.make_room_for_rows(changes.len()),
+            Patch::Release(_) => Ok(()),
+            Patch::Serve(_) => Ok(()),
+        }
+    }
+}
