@@ -1,4 +1,4 @@
-//! Made by `digests.py`.
+//! Made by `bench/digests.py`.
 
 /// What reading the drawn records answers: FNV-1a of each hundred of answers, one a line.
 pub fn of_hundreds() -> &'static str {

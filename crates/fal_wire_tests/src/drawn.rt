@@ -1,5 +1,5 @@
 //! Random records and valid ones with a byte or two changed. What reading them answers is compared with the answers of another
-//! implementation, which `digests.py` draws the same records for.
+//! implementation, which `bench/digests.py` draws the same records for.
 
 ghost use Rattle.std.specs.Prelude.{◌≤◌, ◌<◌};
 ghost use Rattle.fal_wire.specs.Messages.{Fits};

@@ -1,6 +1,6 @@
-"""Prints src/digests.rt: what another implementation answers to the records that src/drawn.rt draws.
+"""Prints crates/fal_wire_tests/src/digests.rt: what another implementation answers to the records that drawn.rt beside it draws.
 
-usage: python3 digests.py FOLDER > src/digests.rt    (FOLDER holds that implementation, as a package `oracle` with a module `wire`)
+usage: python3 bench/digests.py FOLDER > digests.rt    (FOLDER holds that implementation, as a package `oracle` with a module `wire`)
 
 The records are drawn here as there, by the same steps. Each answer is written as Rust's `{:?}` writes it.
 """
@@ -12,7 +12,7 @@ sys.path.insert(0, sys.argv[1])
 from oracle import wire
 
 OFFSET, PRIME, BITS = 14695981039346656037, 1099511628211, 2**64
-TABLE = (pathlib.Path(__file__).parent / 'src/table.rt').read_text()
+TABLE = (pathlib.Path(__file__).parent.parent / 'crates/fal_wire_tests/src/table.rt').read_text()
 
 
 def valid_records():
@@ -148,7 +148,7 @@ def answered(digest, record):
 
 def main():
     samples, draws = valid_records(), Draws(54)
-    print('//! Made by `digests.py`.\n')
+    print('//! Made by `bench/digests.py`.\n')
     print('/// What reading the drawn records answers: FNV-1a of each hundred of answers, one a line.')
     print('pub fn of_hundreds() -> &\'static str {\n    "\\')
     for _ in range(200):
