@@ -1,0 +1,6 @@
+mod Counts
+pub mod Histories
+mod Keys
+mod Ordered
+mod Positions
+mod Served

@@ -1,0 +1,12 @@
+ghost use Rattle.fal_base.specs.EachOnce.{IsEachOnce};
+ghost use Rattle.fal_story.specs.Run.{transcript};
+
+use fal_story::Book;
+
+/// Each call of a run is sent in its lane's order and answered at most once, before the lane's next one is sent; what else is recorded of it
+/// stands between the two, and it has one commit at most.
+pub fn each_once(book: &Book)
+    ensures { IsEachOnce book.now.config (transcript book.now.config book.now.events) }
+{
+    book.legal();
+}

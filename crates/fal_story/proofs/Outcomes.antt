@@ -1,0 +1,107 @@
+-- What comes of a planned call that is served: it is done, and where it changes its row no directory stands there.
+use Rattle.std.proofs.Common.{◌≡◌, ◌≢◌, ℕ, Bool, true, false, not, List, [], ◌∷◌, Option, Some, None, refl, ap, ◌∙◌, cond, is_some}
+use Rattle.std.specs.Prelude.{IsTrue}
+use Rattle.fal_base.specs.declared.call.Cred.{Cred}
+use Rattle.fal_base.specs.declared.inode.Dentry.{Dentry}
+use Rattle.fal_base.specs.declared.inode.Inode.{Inode}
+use Rattle.fal_base.specs.declared.inode.Kind.TheVariants.{Dir, File}
+use Rattle.fal_base.specs.declared.op.Op.{Op}
+use Rattle.fal_base.specs.declared.op.Op.TheVariants as op
+use Rattle.fal_base.specs.declared.reply.Errno.{Errno}
+use Rattle.fal_base.specs.declared.reply.Errno.TheVariants.{Eacces, Eexist, Eisdir, Enoent, Eperm}
+use Rattle.fal_base.specs.declared.reply.Reply.{Reply}
+use Rattle.fal_base.specs.declared.reply.Reply.TheVariants.{Fine, Fail, Stat}
+use Rattle.fal_base.specs.Change.{new_row}
+use Rattle.fal_base.specs.Walk.{is_dir, grants}
+use Rattle.fal_exec.specs.declared.outcome.Change.{Change}
+use Rattle.fal_exec.specs.declared.outcome.Change.TheVariants as change
+use Rattle.fal_exec.specs.declared.outcome.ExecOut.{ExecOut}
+use Rattle.fal_exec.specs.declared.outcome.ExecOut.TheVariants as out
+use Rattle.fal_exec.specs.Executed.{is_directory}
+use Rattle.fal_exec.specs.Outcome.{outcome_of, kept, found, checked, parent_grants, make_outcome, access_outcome, truncate_outcome, unlink_outcome}
+use Rattle.fal_node.specs.Exec.{is_making}
+use Rattle.fal_story.specs.Clusters.{is_served}
+
+-- ---- it is done
+
+abbrev pub IsDone : ExecOut → Type 0
+IsDone o = (reply : Reply) × ((ch : Change) × (o ≡ out.Finish reply ch))
+
+done_kept : (reply : Reply) → IsDone (kept reply)
+done_kept reply = (reply, (change.Keep, refl))
+
+-- what holds of the answer to a check that fails, and of what comes after them all
+checked_ends : (Q : ExecOut → Type 0) → ((errno : Errno) → Q (kept (Fail errno))) → (checks : List (Bool × Errno)) (o : ExecOut) → Q o → Q (checked checks o)
+checked_ends Q fails [] o is = is
+checked_ends Q fails (check ∷ checks) o is = elim check.0 as (λ b. Q (cond b (kept (Fail check.1)) (checked checks o))) [ true ↦ fails check.1 | false ↦ checked_ends Q fails checks o is ]
+
+done_checked : (checks : List (Bool × Errno)) (o : ExecOut) → IsDone o → IsDone (checked checks o)
+done_checked checks o is = checked_ends IsDone (λ errno. done_kept (Fail errno)) checks o is
+
+done_found : (row : Option Inode) (go : Inode → ExecOut) → ((inode : Inode) → IsDone (go inode)) → IsDone (found row go)
+done_found None go is = done_kept (Fail Enoent)
+done_found (Some inode) go is = is inode
+
+done_made : (row : Option Inode) (parent : Option Dentry) (cred : Cred) (made : Inode) → IsDone (make_outcome row parent cred made)
+done_made row parent cred made = done_checked ((is_some row, Eexist) ∷ (not (parent_grants cred 2 parent), Eacces) ∷ []) (out.Finish Fine (change.Put made)) (Fine, (change.Put made, refl))
+
+pub outcome_done : (row : Option Inode) (parent : Option Dentry) (cred : Cred) (call : Op) (fresh : ℕ) → IsTrue (is_served call) → IsDone (outcome_of row parent cred call fresh)
+outcome_done row parent cred (op.Mkdir path mode) fresh served = done_made row parent cred (new_row cred Dir mode fresh)
+outcome_done row parent cred (op.Create path mode) fresh served = done_made row parent cred (new_row cred File mode fresh)
+outcome_done row parent cred (op.Stat path) fresh served = done_found row (λ inode. kept (Stat inode)) (λ inode. done_kept (Stat inode))
+outcome_done row parent cred (op.Access path want) fresh served = done_found row (access_outcome cred want) (λ inode. done_checked ((not (grants cred want inode), Eacces) ∷ []) (kept Fine) (done_kept Fine))
+outcome_done row parent cred (op.Truncate path size) fresh served =
+    done_found row (truncate_outcome cred size) (λ inode. done_checked ((is_dir inode, Eisdir) ∷ (not (grants cred 2 inode), Eacces) ∷ []) _ (Fine, (change.Put (record inode { size = size }), refl)))
+outcome_done row parent cred (op.Unlink path) fresh served =
+    done_found row (unlink_outcome parent cred) (λ inode. done_checked ((not (parent_grants cred 2 parent), Eacces) ∷ (is_dir inode, Eperm) ∷ []) _ (Fine, (change.Remove, refl)))
+outcome_done row parent cred other fresh served = cc
+
+-- ---- a row that changes
+
+-- the outcome is one that changes no row, or this holds
+abbrev OrKeeps : Type 0 → ExecOut → Type 0
+OrKeeps P o = (reply : Reply) (ch : Change) → o ≡ out.Finish reply ch → ch ≢ change.Keep → P
+
+keeps : (P : Type 0) (reply : Reply) → OrKeeps P (kept reply)
+keeps P reply other ch is changes = absurd (changes (cc))
+
+keeps_after : (P : Type 0) (check : Bool) (errno : Errno) (o : ExecOut) → (check ≡ false → OrKeeps P o) → OrKeeps P (cond check (kept (Fail errno)) o)
+keeps_after P true errno o later = keeps P (Fail errno)
+keeps_after P false errno o later = later refl
+
+keeps_found : (P : Type 0) (row : Option Inode) (go : Inode → ExecOut) → ((inode : Inode) → row ≡ Some inode → OrKeeps P (go inode)) → OrKeeps P (found row go)
+keeps_found P None go later = keeps P (Fail Enoent)
+keeps_found P (Some inode) go later = later inode refl
+
+no_row : (row : Option Inode) → is_some row ≡ false → is_directory row ≡ false
+no_row None is = refl
+no_row (Some inode) is = cc
+
+no_dir : (row : Option Inode) (inode : Inode) → row ≡ Some inode → is_dir inode ≡ false → is_directory row ≡ false
+no_dir row inode is off = ap is_directory is ∙ off
+
+off_dirs : (row : Option Inode) (parent : Option Dentry) (cred : Cred) (call : Op) (fresh : ℕ) → IsTrue (is_served call) → OrKeeps (is_directory row ≡ false) (outcome_of row parent cred call fresh)
+off_dirs row parent cred (op.Mkdir path mode) fresh served = keeps_after _ (is_some row) Eexist _ (λ none reply ch is changes. no_row row none)
+off_dirs row parent cred (op.Create path mode) fresh served = keeps_after _ (is_some row) Eexist _ (λ none reply ch is changes. no_row row none)
+off_dirs row parent cred (op.Stat path) fresh served = keeps_found _ row _ (λ inode there. keeps _ (Stat inode))
+off_dirs row parent cred (op.Access path want) fresh served = keeps_found _ row _ (λ inode there. keeps_after _ (not (grants cred want inode)) Eacces (kept Fine) (λ _. keeps _ Fine))
+off_dirs row parent cred (op.Truncate path size) fresh served =
+    keeps_found _ row _ (λ inode there. keeps_after _ (is_dir inode) Eisdir _ (λ file reply ch is changes. no_dir row inode there file))
+off_dirs row parent cred (op.Unlink path) fresh served =
+    keeps_found _ row _ (λ inode there. keeps_after _ (not (parent_grants cred 2 parent)) Eacces _ (λ granted. keeps_after _ (is_dir inode) Eperm _ (λ file reply ch is changes. no_dir row inode there file)))
+off_dirs row parent cred other fresh served = cc
+
+-- where a served call changes its row, no directory stands there
+pub outcome_off_dirs : (row : Option Inode) (parent : Option Dentry) (cred : Cred) (call : Op) (fresh : ℕ) (reply : Reply) (ch : Change) → IsTrue (is_served call) → outcome_of row parent cred call fresh ≡ out.Finish reply ch
+    → ch ≢ change.Keep → is_directory row ≡ false
+outcome_off_dirs row parent cred call fresh reply ch served is changes = off_dirs row parent cred call fresh served reply ch is changes
+
+-- a new row is never taken away
+make_puts : (row : Option Inode) (parent : Option Dentry) (cred : Cred) (made : Inode) (reply : Reply) → make_outcome row parent cred made ≡ out.Finish reply change.Remove → ⊥
+make_puts row parent cred made reply =
+    checked_ends (λ o. o ≡ out.Finish reply change.Remove → ⊥) (λ errno is. cc) ((is_some row, Eexist) ∷ (not (parent_grants cred 2 parent), Eacces) ∷ []) (out.Finish Fine (change.Put made)) (λ is. cc)
+
+pub remove_makes_none : (row : Option Inode) (parent : Option Dentry) (cred : Cred) (call : Op) (fresh : ℕ) (reply : Reply) → outcome_of row parent cred call fresh ≡ out.Finish reply change.Remove → is_making call ≡ false
+remove_makes_none row parent cred (op.Mkdir path mode) fresh reply is = absurd (make_puts row parent cred (new_row cred Dir mode fresh) reply is)
+remove_makes_none row parent cred (op.Create path mode) fresh reply is = absurd (make_puts row parent cred (new_row cred File mode fresh) reply is)
+remove_makes_none row parent cred other fresh reply is = refl

@@ -1,0 +1,47 @@
+-- Which clusters may run.
+use Rattle.std.specs.Prelude.{◌≡◌, ℕ, ◌≤◌, Bool, true, false, List, [], length, None, IsTrue, nat_lt, nat_le, ◌&&◌, unwrap_or, sum_by}
+use Rattle.std.specs.List.{All}
+use Rattle.fal_base.specs.declared.call.Call.{Call}
+use Rattle.fal_base.specs.declared.call.Config.{Config}
+use Rattle.fal_base.specs.declared.op.Op.{Op}
+use Rattle.fal_base.specs.declared.op.Op.TheVariants as op
+use Rattle.fal_base.specs.Transcript.{numbered}
+use Rattle.fal_client.specs.Paths.{bad_path}
+use Rattle.fal_wire.specs.Numbers.{cred_field}
+use Rattle.fal_wire.specs.Ops.{op_field}
+
+-- the operations that nodes alone answer, by one row. The others are still to come
+abbrev pub is_served : Op → Bool
+is_served (op.Mkdir path mode) = true
+is_served (op.Create path mode) = true
+is_served (op.Stat path) = true
+is_served (op.Access path want) = true
+is_served (op.Truncate path size) = true
+is_served (op.Unlink path) = true
+is_served other = false
+
+-- the call is served, and where its path is good a record can hold it
+pub record IsCall (call : Call) : Type 0 where
+  pub served : IsTrue (is_served call.op)
+  pub fits : bad_path call.op ≡ None → cred_field.Fits call.cred × op_field.Fits call.op
+
+-- the calls of a lane, which are counted from 1. There are none in a lane that is not there
+abbrev pub calls_of_lane : Config → ℕ → List Call
+calls_of_lane config lane = unwrap_or (numbered config.lanes lane) []
+
+abbrev pub is_lane : Config → ℕ → Bool
+is_lane config lane = nat_lt 0 lane && nat_le lane (length config.lanes)
+
+abbrev pub is_node : Config → ℕ → Bool
+is_node config node = nat_lt node config.nodes
+
+-- 1 to 16 nodes and lanes, batches of 1 to 64 calls, and at most 10,000 calls, each of which is one that is served
+pub record IsCluster (config : Config) : Type 0 where
+  pub some_nodes : 1 ≤ config.nodes
+  pub few_nodes : config.nodes ≤ 16
+  pub some_lanes : 1 ≤ length config.lanes
+  pub few_lanes : length config.lanes ≤ 16
+  pub some_batch : 1 ≤ config.batch
+  pub small_batch : config.batch ≤ 64
+  pub few_calls : sum_by (λ calls. length calls) config.lanes ≤ 10000
+  pub calls : All (λ calls. All IsCall calls) config.lanes

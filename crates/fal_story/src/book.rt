@@ -1,0 +1,162 @@
+ghost use Rattle.std.specs.Prelude.{◌≡◌, ◌∷◌, ◌++◌, [], ◌<◌, ◌^◌, OnOk, OnErr, IfOk, length};
+ghost use Rattle.fal_story.specs.Clusters.{IsCluster};
+ghost use Rattle.fal_story.specs.Run.{Follows, IsLegal, commits_at, envelopes_at, run, transcript};
+ghost use Rattle.fal_story.specs.Told.{Told, actor_of as actor_told};
+
+use crate::post::{commits_in, entries, envelopes};
+use crate::told::Run;
+use fal_base::{Actor, Config, Duplicate, Entry, Envelope, Event, Items, OutOfMemory, Outputs};
+use std::alloc::Global;
+use std::marker::Model;
+
+/// A book has fewer events, and its run fewer commits, than this.
+const LIMIT: u64 = 1 << 63;
+
+/// A legal run of a cluster: its events so far, with the envelopes and the entries that they make.
+#[derive(Debug, Drop)]
+pub struct Book {
+    alloc: Global,
+    config: Config,
+    events: Vec<Event>,
+    sent: Vec<Envelope>,
+    entries: Vec<Entry>,
+    commits: u64,
+}
+
+impl Model for Book {
+    ghost use Rattle.fal_story.specs.Told.{Told, IsBook};
+
+    ghost Value = { Told };
+
+    ghost view = { λ b. record { config = b.config; events = b.events.items } };
+
+    ghost invariant = { λ b. IsBook b.config b.events.items b.sent.items b.entries.items b.commits };
+}
+
+// Who makes the event.
+fn actor_of(event: Event) -> Actor
+    ensures { result ≡ actor_told event }
+{
+    match event {
+        Event::Send { lane } | Event::Get { lane, .. } => Actor::Client(lane),
+        Event::Deliver { node, .. } | Event::Gather { node } | Event::Exec { node, .. } => {
+            Actor::Node(node)
+        }
+        Event::Release { node, .. } | Event::Serve { node, .. } => Actor::Node(node),
+        Event::Hear { .. } | Event::Start => Actor::Coord,
+    }
+}
+
+// The same entries once more.
+fn copies(alloc: Global, entries: &[Entry]) -> Result<Vec<Entry>, OutOfMemory>
+    ensures { IfOk result (λ copied. copied.items ≡ entries.now) }
+{
+    let mut copied = Vec::new(alloc);
+    for entry in entries {
+        copied.push(entry.copy()?)?;
+    }
+    Ok(copied)
+}
+
+impl Book {
+    /// The book of a cluster before its first event. Takes no memory.
+    pub fn new(alloc: Global, config: Config) -> Book
+        requires { IsCluster config }
+        ensures { result ≡ record { config = config; events = [] } }
+    {
+        Book {
+            alloc,
+            config,
+            events: Vec::new(alloc),
+            sent: Vec::new(alloc),
+            entries: Vec::new(alloc),
+            commits: 0,
+        }
+    }
+
+    /// That its events are a legal run of its cluster, which holds of every book.
+    pub fn legal(&self)
+        ensures { IsLegal self.now.config self.now.events }
+    {
+        let _ = &self.events;
+    }
+
+    /// The cluster.
+    pub fn config(&self) -> &Config
+        ensures { result.now ≡ self.now.config }
+    {
+        &self.config
+    }
+
+    /// The events, in their order.
+    pub fn events(&self) -> &[Event]
+        ensures { result.now ≡ self.now.events }
+    {
+        self.events.as_slice()
+    }
+
+    /// The envelopes that were sent, by their numbers.
+    pub fn sent(&self) -> &[Envelope]
+        ensures { result.now ≡ envelopes_at (run self.now.config self.now.events) }
+    {
+        self.sent.as_slice()
+    }
+
+    /// How many commits were made.
+    pub fn commits(&self) -> u64
+        ensures { result ≡ commits_at (run self.now.config self.now.events) }
+    {
+        self.commits
+    }
+
+    /// What the run records, or want of memory.
+    pub fn transcript(&self) -> Result<Vec<Entry>, OutOfMemory>
+        ensures { IfOk result (λ entries. entries.items ≡ transcript self.now.config self.now.events) }
+    {
+        copies(self.alloc, self.entries.as_slice())
+    }
+
+    /// One more event, which is enabled after this run, with the records and notes that it makes. Gives the event's number, from 0. Want of
+    /// memory leaves the book as it was; a book of 2^63 - 1 events answers it to every further event.
+    pub fn step(&mut self, event: Event, outputs: Outputs) -> Result<u64, OutOfMemory>
+        requires { Follows self.old.config self.old.events event outputs.sent outputs.notes }
+        ensures number { IfOk result (λ number. number ≡ length self.old.events) }
+        ensures ok { OnOk result (self.new ≡ record self.old { events = self.old.events ++ event ∷ [] }) }
+        ensures err { OnErr result (self.new ≡ self.old) }
+    {
+        let number = self.events.len() as u64;
+        let Outputs { sent, notes } = outputs;
+        let mut sent = envelopes(self.alloc, actor_of(event), number, self.commits, sent)?;
+        let mut noted = entries(self.alloc, self.commits, notes)?;
+        let made = commits_in(noted.as_slice());
+        if number >= LIMIT - 1 || made >= LIMIT - self.commits {
+            return Err(OutOfMemory);
+        }
+        self.events.reserve(1)?;
+        self.sent.reserve(sent.len())?;
+        self.entries.reserve(noted.len())?;
+        let Ok(()) = self.sent.append(&mut sent) else {
+            unreachable!()
+        };
+        let Ok(()) = self.entries.append(&mut noted) else {
+            unreachable!()
+        };
+        let Ok(()) = self.events.push(event) else {
+            unreachable!()
+        };
+        self.commits += made;
+        Ok(number)
+    }
+
+    /// Hands the run over.
+    pub fn into_run(self) -> Run
+        ensures config { result.config ≡ self.config }
+        ensures events { result.events ≡ self.events }
+    {
+        let Book { config, events, .. } = self;
+        Run {
+            config,
+            events: Items::from_items(events),
+        }
+    }
+}
