@@ -1,0 +1,104 @@
+-- The queues after an event hold what is due: what came of the envelopes before it, and all that it sent.
+use Rattle.std.proofs.Common.{◌≡◌, ℕ, ◌-◌, ◌≤◌, Bool, true, false, List, ◌++◌, length, take, Option, Some, None, refl, sym, ap, ◌∙◌, subst, arith, length-append}
+use Rattle.std.specs.Prelude.{slice_get, IsSome}
+use Rattle.std.proofs.lemmas.List.{take-append-le}
+use Rattle.std.proofs.Math.Seq.{take-length}
+use Rattle.fal_base.specs.declared.event.Envelope.{Envelope}
+use Rattle.fal_base.specs.declared.event.Event.{Event}
+use Rattle.fal_base.specs.declared.event.Event.TheVariants as event
+use Rattle.fal_client.specs.State.{ClientState}
+use Rattle.fal_node.specs.State.{NodeState}
+use Rattle.fal_story.proofs.Dues.{Rises, came_snoc, due_rises}
+use Rattle.fal_story.proofs.Lists.{put_other, slice_get_below}
+use Rattle.fal_story.proofs.MovingRuns.{legal_moves}
+use Rattle.fal_story.specs.Fresh.{came_with, came}
+use Rattle.fal_story.specs.Run.{IsLegal, run, envelopes_at}
+use Rattle.fal_story.specs.Told.{Told}
+use Rattle.fal_story.specs.World.{World}
+use Rattle.fal_alone.specs.Queues.{QueueSeen, actor_at, HoldDue, HaveRoom, TakesItsOwn}
+use Rattle.fal_alone.specs.Turns.{world_of, envelopes_of, with_event, sent_by, ClientNextIn, NodeNextIn}
+
+-- ---- the envelopes before an event are the front of those after it
+
+take_front : (xs ys : List Envelope) → take (length xs) (xs ++ ys) ≡ xs
+take_front xs ys = take-append-le (length xs) xs ys (omega arith) ∙ take-length xs
+
+-- the second list begins with the first
+pub record BeginsWith (before behind : List Envelope) : Type 0 where
+  pub front : take (length before) behind ≡ before
+  pub below : length before ≤ length behind
+
+grown : (before behind sent : List Envelope) → behind ≡ before ++ sent → BeginsWith before behind
+grown before behind sent is = record {
+  front = ap (take (length before)) is ∙ take_front before sent;
+  below = let l = ap length is ∙ length-append before sent in omega arith;
+}
+
+client_grows : (o p : Option World) (lane : ℕ) (c : ClientState) → ClientNextIn o p lane c → BeginsWith (envelopes_at o) (envelopes_at p)
+client_grows None p lane c next = absurd next
+client_grows (Some w) None lane c next = absurd next
+client_grows (Some w) (Some u) lane c next = grown w.envelopes u.envelopes next.sent next.envelopes
+
+node_grows : (o p : Option World) (number : ℕ) (n : NodeState) → NodeNextIn o p number n → BeginsWith (envelopes_at o) (envelopes_at p)
+node_grows None p number n next = absurd next
+node_grows (Some w) None number n next = absurd next
+node_grows (Some w) (Some u) number n next = grown w.envelopes u.envelopes next.sent next.envelopes
+
+-- ---- no envelope came that was not sent
+
+past_next : (xs : List Envelope) (c : ℕ → Bool) (e : Event) → ((k : ℕ) → length xs ≤ k → c k ≡ false) → TakesItsOwn e xs → (k : ℕ) → length xs ≤ k → came_with e c k ≡ false
+past_next xs c (event.Get l m) past takes k h = let b = slice_get_below xs m takes.0 takes.1.0 in put_other c m true k (λ z. absurd (omega arith)) ∙ past k h
+past_next xs c (event.Deliver n m) past takes k h = let b = slice_get_below xs m takes.0 takes.1.0 in put_other c m true k (λ z. absurd (omega arith)) ∙ past k h
+past_next xs c (event.Hear m) past takes k h = let b = slice_get_below xs m takes.0 takes.1.0 in put_other c m true k (λ z. absurd (omega arith)) ∙ past k h
+past_next xs c (event.Send l) past takes k h = past k h
+past_next xs c (event.Gather n) past takes k h = past k h
+past_next xs c (event.Exec n m) past takes k h = past k h
+past_next xs c (event.Release n m) past takes k h = past k h
+past_next xs c (event.Serve n m) past takes k h = past k h
+past_next xs c event.Start past takes k h = past k h
+
+past_told : (told : Told) → IsLegal told.config told.events → (k : ℕ) → length (envelopes_of told) ≤ k → came told.events k ≡ false
+past_told told legal =
+    elim (run told.config told.events) as (λ o. run told.config told.events ≡ o → IsSome o → (k : ℕ) → length (envelopes_at o) ≤ k → came told.events k ≡ false) [
+      | None ↦ λ r some. absurd (cc)
+      | Some w ↦ λ r some k h. (legal_moves told.config told.events w legal r).1.past k h
+    ] refl legal.enabled
+
+-- ---- what settling and catching up need
+
+-- the numbers of a queue rise
+pub held_rises : (lanes : ℕ) (told : Told) (queues : List QueueSeen) → HoldDue lanes (came told.events) (envelopes_of told) queues → (place : ℕ) (queue : QueueSeen) → slice_get queues place ≡ Some queue → Rises 0 queue.items
+held_rises lanes told queues held place queue at = subst (Rises 0) (sym (held place queue at)) (due_rises (actor_at lanes place) (came told.events) 0 (envelopes_of told))
+
+-- a book after an event, and how many envelopes there were before it
+pub record IsAfter (told book : Told) (e : Event) (from : ℕ) : Type 0 where
+  pub is : book ≡ with_event told e
+  pub count : from ≡ length (envelopes_of told)
+  pub begins : BeginsWith (envelopes_of told) (envelopes_of (with_event told e))
+
+-- so it is after a client's event
+pub after_client : (told book : Told) (e : Event) (from lane : ℕ) (c : ClientState) → book ≡ with_event told e → from ≡ length (envelopes_of told) → ClientNextIn (world_of told) (world_of (with_event told e)) lane c → IsAfter told book e from
+after_client told book e from lane c is count next = record { is = is; count = count; begins = client_grows (world_of told) (world_of (with_event told e)) lane c next }
+
+-- and after a node's
+pub after_node : (told book : Told) (e : Event) (from number : ℕ) (n : NodeState) → book ≡ with_event told e → from ≡ length (envelopes_of told) → NodeNextIn (world_of told) (world_of (with_event told e)) number n → IsAfter told book e from
+after_node told book e from number n is count next = record { is = is; count = count; begins = node_grows (world_of told) (world_of (with_event told e)) number n next }
+
+-- what came is settled, and the queues hold what is due of the front
+pub front_held : (lanes from : ℕ) (told book : Told) (e : Event) (queues : List QueueSeen) → IsAfter told book e from → HoldDue lanes (came_with e (came told.events)) (envelopes_of told) queues
+    → HoldDue lanes (came book.events) (take from (envelopes_of book)) queues
+front_held lanes from told book e queues after held =
+    subst (λ (b : Told). HoldDue lanes (came b.events) (take from (envelopes_of b)) queues) (sym after.is)
+    (subst (λ c. HoldDue lanes c (take from (envelopes_of (with_event told e))) queues) (sym (came_snoc told.events e))
+    (subst (λ xs. HoldDue lanes (came_with e (came told.events)) xs queues) (sym (ap (λ n. take n (envelopes_of (with_event told e))) after.count ∙ after.begins.front)) held))
+
+-- none of the others came
+pub rest_fresh : (from : ℕ) (told book : Told) (e : Event) → IsAfter told book e from → IsLegal told.config told.events → TakesItsOwn e (envelopes_of told) → (k : ℕ) → from ≤ k → came book.events k ≡ false
+rest_fresh from told book e after legal takes k h =
+    ap (λ (b : Told). came b.events k) after.is ∙ ap (λ c. c k) (came_snoc told.events e)
+    ∙ past_next (envelopes_of told) (came told.events) e (past_told told legal) takes k (let f = after.count in omega arith)
+
+-- there is room for them
+pub rest_fits : (from : ℕ) (told book : Told) (e : Event) (queues : List QueueSeen) → IsAfter told book e from → HaveRoom (sent_by told e) queues → HaveRoom (length (envelopes_of book) - from) queues
+rest_fits from told book e queues after room =
+    subst (λ n. HaveRoom n queues) (sym (ap (λ (b : Told). length (envelopes_of b) - from) after.is ∙ ap (λ n. length (envelopes_of (with_event told e)) - n) after.count)) room

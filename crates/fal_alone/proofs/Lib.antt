@@ -1,0 +1,15 @@
+pub mod Drains
+pub mod FirstEnabled
+pub mod Following
+pub mod FreshRuns
+pub mod ItemNumbers
+pub mod NodeRows
+pub mod Openings
+pub mod Places
+pub mod Pushes
+pub mod QuietRuns
+pub mod Ranged
+pub mod RowLines
+pub mod Taken
+pub mod Turns
+pub mod Wholes

@@ -1,0 +1,47 @@
+-- The rows of the nodes at hand are those of the run, and so the tree that its commits leave.
+use Rattle.std.proofs.Common.{◌≡◌, ℕ, suc, ◌+◌, List, [], ◌∷◌, length, map, Some, None, refl, ap, ◌∙◌, arith}
+use Rattle.std.specs.Prelude.{slice_get}
+use Rattle.std.specs.List.{range_with_len}
+use Rattle.fal_base.specs.declared.call.Config.{Config}
+use Rattle.fal_base.specs.declared.event.Event.{Event}
+use Rattle.fal_base.specs.Tree.{Tree}
+use Rattle.fal_client.specs.State.{ClientState}
+use Rattle.fal_node.specs.Patch.{Seen}
+use Rattle.fal_node.specs.State.{NodeState}
+use Rattle.fal_story.proofs.TreeRows.{rows_are_told}
+use Rattle.fal_story.specs.AllRows.{all_rows, tree_left}
+use Rattle.fal_story.specs.Fresh.{IsQuiet, came}
+use Rattle.fal_story.specs.Run.{IsLegal, run}
+use Rattle.fal_story.specs.Told.{Told}
+use Rattle.fal_story.specs.World.{World}
+use Rattle.fal_alone.specs.Queues.{QueueSeen}
+use Rattle.fal_alone.specs.Quiet.{rows_in}
+use Rattle.fal_alone.specs.Turns.{world_of}
+use Rattle.fal_alone.specs.Whole.{IsWhole, IsWholeAt}
+
+-- nodes that have these rows by number, from a first number on, have them in that order
+pub rows_by_number : (nodes : List Seen) (rows : ℕ → Tree) (from : ℕ) → ((i : ℕ) (n : Seen) → slice_get nodes i ≡ Some n → n.state.rows ≡ rows (from + i))
+    → map (λ (n : Seen). n.state.rows) nodes ≡ map rows (range_with_len from (length nodes))
+rows_by_number [] rows from are = refl
+rows_by_number (n ∷ nodes) rows from are =
+    let start : from + 0 ≡ from = omega arith in
+    let here : n.state.rows ≡ rows from = are 0 n refl ∙ ap rows start in
+    let rest = rows_by_number nodes rows (from + 1) (λ i m at. let next : from + suc i ≡ (from + 1) + i = omega arith in are (suc i) m at ∙ ap rows next) in
+    (λ i. here i ∷ rest i)
+
+-- the rows of a whole cluster's nodes are the tree that the commits of its run leave
+pub whole_rows : (config : Config) (events : List Event) (clients : List ClientState) (nodes : List Seen) (queues : List QueueSeen) → IsLegal config events → IsWhole config events clients nodes queues
+    → all_rows (map (λ (n : Seen). n.state.rows) nodes) ≡ tree_left config events
+whole_rows config events clients nodes queues legal whole =
+    elim (run config events) as (λ o. run config events ≡ o → IsWholeAt (length config.lanes) o (came events) clients nodes queues → all_rows (map (λ (n : Seen). n.state.rows) nodes) ≡ tree_left config events) [
+      | None ↦ λ at is. absurd is
+      | Some w ↦ λ at is.
+          ap all_rows (rows_by_number nodes (λ n. (w.nodes n).rows) 0 (λ i n there. let same : i ≡ 0 + i = omega arith in ap (λ (s : NodeState). s.rows) (is.nodes_are i n there) ∙ ap (λ k. (w.nodes k).rows) same))
+          ∙ ap (λ count. all_rows (map (λ n. (w.nodes n).rows) (range_with_len 0 count))) whole.nodes_count
+          ∙ rows_are_told config events w legal at
+    ] refl whole.at
+
+-- after a legal run, a quiet one too, the rows of the nodes are the tree that the commits leave
+pub quiet_rows : (told : Told) → IsLegal told.config told.events
+    → (w : World) → world_of told ≡ Some w → IsQuiet told.config w (came told.events) → rows_in told.config w ≡ tree_left told.config told.events
+quiet_rows told legal w at quiet = rows_are_told told.config told.events w legal at

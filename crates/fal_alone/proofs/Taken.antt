@@ -1,0 +1,190 @@
+-- Whose event each event is, and where what comes is enabled.
+use Rattle.std.proofs.Common.{◌≡◌, ℕ, ◌<◌, Bool, true, false, List, [], Some, None, Option, IsTrue, refl, sym, ap, ◌∙◌, subst, arith, eqb-true, eq-eqb}
+use Rattle.std.specs.Prelude.{slice_get, is_some, IsSome, IsNone}
+use Rattle.std.proofs.lemmas.Bool.Decides.{nat_tests}
+use Rattle.fal_base.specs.declared.call.Config.{Config}
+use Rattle.fal_base.specs.declared.event.Actor.{Actor}
+use Rattle.fal_base.specs.declared.event.Actor.TheVariants.{Client, Node}
+use Rattle.fal_base.specs.declared.event.Envelope.{Envelope}
+use Rattle.fal_base.specs.declared.event.Event.{Event}
+use Rattle.fal_base.specs.declared.event.Event.TheVariants as event
+use Rattle.fal_client.specs.declared.event.ClientEvent.TheVariants as client
+use Rattle.fal_client.specs.State.{ClientState, ClientMove}
+use Rattle.fal_client.specs.Step.{client_move, got, is_lane as is_for}
+use Rattle.fal_node.specs.declared.event.NodeEvent.TheVariants as node
+use Rattle.fal_node.specs.Deliver.{delivered}
+use Rattle.fal_node.specs.Letters.{Work}
+use Rattle.fal_node.specs.State.{NodeState}
+use Rattle.fal_node.specs.Step.{node_step, only_if, is_node as is_of}
+use Rattle.fal_story.proofs.Actors.{IsActor}
+use Rattle.fal_story.proofs.Enabled.{delivers}
+use Rattle.fal_story.proofs.EnabledClient.{gets_own}
+use Rattle.fal_story.proofs.LegalRuns.{legal_kept}
+use Rattle.fal_story.proofs.Members.{each_in, in_at}
+use Rattle.fal_story.proofs.MovingRuns.{legal_moves}
+use Rattle.fal_story.specs.Clusters.{is_lane, is_node}
+use Rattle.fal_story.specs.Run.{run, only_where, client_hears, node_hears, client_deed, node_deed, deed, envelopes_at, IsLegal}
+use Rattle.fal_story.specs.World.{World}
+use Rattle.fal_alone.specs.Queues.{WasSentTo}
+use Rattle.fal_alone.specs.Turns.{deed_in, IsEventOfClientIn, IsEventOfNodeIn}
+
+-- ---- whose event it is
+
+-- a Send is its lane's
+pub of_send : (config : Config) (o : Option World) (lane : ℕ) → IsSome o → IsEventOfClientIn config o (event.Send lane) lane client.Send
+unfolding deed
+of_send config None lane some = absurd (cc)
+of_send config (Some w) lane some = (tt, refl)
+
+-- a Get is its lane's, which hears the envelope
+pub of_get : (config : Config) (o : Option World) (lane number : ℕ) (x : Envelope) → IsSome o → slice_get (envelopes_at o) number ≡ Some x → IsEventOfClientIn config o (event.Get lane number) lane (client.Get x)
+unfolding deed
+of_get config None lane number x some at = absurd (cc)
+of_get config (Some w) lane number x some at = ((number, at), ap (λ y. client_deed w lane (only_where (is_lane config lane) (client_hears (w.clients lane) y))) at)
+
+-- a Deliver is its node's, which hears the envelope
+pub of_deliver : (config : Config) (o : Option World) (n number : ℕ) (x : Envelope) → IsSome o → slice_get (envelopes_at o) number ≡ Some x → IsEventOfNodeIn config o (event.Deliver n number) n (node.Deliver x)
+unfolding deed
+of_deliver config None n number x some at = absurd (cc)
+of_deliver config (Some w) n number x some at = ((number, at), ap (λ y. node_deed w n (only_where (is_node config n) (node_hears (w.nodes n) y))) at)
+
+-- a Gather is its node's
+pub of_gather : (config : Config) (o : Option World) (n : ℕ) → IsSome o → IsEventOfNodeIn config o (event.Gather n) n node.Gather
+unfolding deed
+of_gather config None n some = absurd (cc)
+of_gather config (Some w) n some = (tt, refl)
+
+-- an Exec is its node's
+pub of_exec : (config : Config) (o : Option World) (n batch : ℕ) → IsSome o → IsEventOfNodeIn config o (event.Exec n batch) n (node.Exec batch)
+unfolding deed
+of_exec config None n batch some = absurd (cc)
+of_exec config (Some w) n batch some = (tt, refl)
+
+-- a Release is its node's
+pub of_release : (config : Config) (o : Option World) (n batch : ℕ) → IsSome o → IsEventOfNodeIn config o (event.Release n batch) n (node.Release batch)
+unfolding deed
+of_release config None n batch some = absurd (cc)
+of_release config (Some w) n batch some = (tt, refl)
+
+-- a Serve is its node's
+pub of_serve : (config : Config) (o : Option World) (n item : ℕ) → IsSome o → IsEventOfNodeIn config o (event.Serve n item) n (node.Serve item)
+unfolding deed
+of_serve config None n item some = absurd (cc)
+of_serve config (Some w) n item some = (tt, refl)
+
+-- the coordinator hears nothing, since no operation needs it yet
+pub none_hears : (config : Config) (o : Option World) (number : ℕ) → IsNone (deed_in config o (event.Hear number))
+unfolding deed
+none_hears config None number = refl
+none_hears config (Some w) number = refl
+
+-- and it does not start
+pub none_starts : (config : Config) (o : Option World) → IsNone (deed_in config o event.Start)
+unfolding deed
+none_starts config None = refl
+none_starts config (Some w) = refl
+
+-- ---- what comes to a lane
+
+unsent_get : (w : World) (lane number : ℕ) (there : Bool) (o : Option Envelope) (m : Option ClientMove) → slice_get w.envelopes number ≡ o → client_hears (w.clients lane) o ≡ m → (w.clients lane).lane ≡ lane
+    → (WasSentTo (Client lane) number w.envelopes → ⊥) → client_deed w lane (only_where there m) ≡ None
+unsent_get w lane number false o m at is own none = refl
+unsent_get w lane number true o None at is own none = refl
+unsent_get w lane number true None (Some move) at is own none = absurd (cc)
+unsent_get w lane number true (Some x) (Some move) at is own none = absurd (none (x, (at, gets_own (w.clients lane) x move is ∙ ap Client own)))
+
+-- where the envelope was not sent to the lane, it does not come to it
+pub no_get : (config : Config) (events : List Event) (lane number : ℕ) → IsLegal config events → (WasSentTo (Client lane) number (envelopes_at (run config events)) → ⊥) → IsNone (deed_in config (run config events) (event.Get lane number))
+unfolding deed
+no_get config events lane number legal none =
+    elim (run config events) as (λ o. run config events ≡ o → (WasSentTo (Client lane) number (envelopes_at o) → ⊥) → IsNone (deed_in config o (event.Get lane number))) [
+      | None ↦ λ t f. refl
+      | Some w ↦ λ t f.
+          let kept = legal_kept config events w legal t in
+          ap (λ d. is_some d) (unsent_get w lane number (is_lane config lane) (slice_get w.envelopes number) (client_hears (w.clients lane) (slice_get w.envelopes number)) refl refl (kept.shows.heard lane).lane f)
+    ] refl none
+
+hears_own : (c : ClientState) (x : Envelope) (lane : ℕ) → c.lane ≡ lane → x.to ≡ Client lane → is_some (client_move c (client.Get x)) ≡ true
+unfolding client_move is_for got
+hears_own c x lane own to = ap (λ b. is_some (got c x b)) (ap (is_for c.lane) to ∙ eq-eqb lane c.lane (sym own))
+
+client_some : (w : World) (lane : ℕ) (there : Bool) (m : Option ClientMove) → there ≡ true → is_some m ≡ true → is_some (client_deed w lane (only_where there m)) ≡ true
+client_some w lane false m here some = absurd (cc)
+client_some w lane true None here some = absurd (cc)
+client_some w lane true (Some move) here some = refl
+
+-- what was sent to a lane comes to it
+pub some_get : (config : Config) (events : List Event) (lane number : ℕ) → IsLegal config events → WasSentTo (Client lane) number (envelopes_at (run config events)) → IsSome (deed_in config (run config events) (event.Get lane number))
+unfolding deed
+some_get config events lane number legal sent =
+    elim (run config events) as (λ o. run config events ≡ o → WasSentTo (Client lane) number (envelopes_at o) → IsSome (deed_in config o (event.Get lane number))) [
+      | None ↦ λ t s. absurd (nowhere s)
+      | Some w ↦ λ t s.
+          let x = s.0 in
+          let at = s.1.0 in
+          let to = s.1.1 in
+          let moves = legal_moves config events w legal t in
+          let there : IsTrue (is_lane config lane) = subst (IsActor config) to (each_in (λ (e : Envelope). IsActor config e.to) w.envelopes x moves.1.within (in_at w.envelopes number x at)) in
+          subst (λ y. is_some (client_deed w lane (only_where (is_lane config lane) (client_hears (w.clients lane) y))) ≡ true) (sym at)
+          (client_some w lane (is_lane config lane) (client_move (w.clients lane) (client.Get x)) there (hears_own (w.clients lane) x lane (moves.0.shows.heard lane).lane to))
+    ] refl sent
+  where
+    nowhere : WasSentTo (Client lane) number [] → ⊥
+    nowhere s = let at = s.1.0 in absurd (cc)
+
+-- ---- what comes to a node
+
+node_to : (to : Actor) (number : ℕ) → is_of to number ≡ true → to ≡ Node number
+node_to (Node m) number is = ap Node (eqb-true m number is)
+node_to other number is = absurd (cc)
+
+-- what comes to a node was sent to it
+delivers_own : (n : NodeState) (x : Envelope) (work : Work) → node_step n (node.Deliver x) ≡ Some work → x.to ≡ Node n.number
+delivers_own n x work is = delivers n x work (λ k. x.to ≡ Node n.number) (λ to. node_to x.to n.number to) is
+
+unsent_deliver : (w : World) (n number : ℕ) (there : Bool) (o : Option Envelope) (m : Option Work) → slice_get w.envelopes number ≡ o → node_hears (w.nodes n) o ≡ m → (w.nodes n).number ≡ n
+    → (WasSentTo (Node n) number w.envelopes → ⊥) → node_deed w n (only_where there m) ≡ None
+unsent_deliver w n number false o m at is own none = refl
+unsent_deliver w n number true o None at is own none = refl
+unsent_deliver w n number true None (Some work) at is own none = absurd (cc)
+unsent_deliver w n number true (Some x) (Some work) at is own none = absurd (none (x, (at, delivers_own (w.nodes n) x work is ∙ ap Node own)))
+
+-- where the envelope was not sent to the node, it does not come to it
+pub no_deliver : (config : Config) (events : List Event) (n number : ℕ) → IsLegal config events → (WasSentTo (Node n) number (envelopes_at (run config events)) → ⊥) → IsNone (deed_in config (run config events) (event.Deliver n number))
+unfolding deed
+no_deliver config events n number legal none =
+    elim (run config events) as (λ o. run config events ≡ o → (WasSentTo (Node n) number (envelopes_at o) → ⊥) → IsNone (deed_in config o (event.Deliver n number))) [
+      | None ↦ λ t f. refl
+      | Some w ↦ λ t f.
+          let kept = legal_kept config events w legal t in
+          ap (λ d. is_some d) (unsent_deliver w n number (is_node config n) (slice_get w.envelopes number) (node_hears (w.nodes n) (slice_get w.envelopes number)) refl refl (kept.shows.placed n).number f)
+    ] refl none
+
+takes_own : (n : NodeState) (x : Envelope) (number : ℕ) → n.number ≡ number → x.to ≡ Node number → is_some (node_step n (node.Deliver x)) ≡ true
+unfolding node_step
+takes_own n x number own to = ap (λ b. is_some (only_if b (delivered n x))) (ap (λ a. is_of a n.number) to ∙ eq-eqb number n.number (sym own))
+
+node_some : (w : World) (n : ℕ) (there : Bool) (m : Option Work) → there ≡ true → is_some m ≡ true → is_some (node_deed w n (only_where there m)) ≡ true
+node_some w n false m here some = absurd (cc)
+node_some w n true None here some = absurd (cc)
+node_some w n true (Some work) here some = refl
+
+-- what was sent to a node comes to it
+pub some_deliver : (config : Config) (events : List Event) (n number : ℕ) → IsLegal config events → WasSentTo (Node n) number (envelopes_at (run config events)) → IsSome (deed_in config (run config events) (event.Deliver n number))
+unfolding deed
+some_deliver config events n number legal sent =
+    elim (run config events) as (λ o. run config events ≡ o → WasSentTo (Node n) number (envelopes_at o) → IsSome (deed_in config o (event.Deliver n number))) [
+      | None ↦ λ t s. absurd (nowhere s)
+      | Some w ↦ λ t s.
+          let x = s.0 in
+          let at = s.1.0 in
+          let to = s.1.1 in
+          let moves = legal_moves config events w legal t in
+          let below : n < config.nodes = subst (IsActor config) to (each_in (λ (e : Envelope). IsActor config e.to) w.envelopes x moves.1.within (in_at w.envelopes number x at)) in
+          let there : is_node config n ≡ true = grind (arith, nat_tests) in
+          subst (λ y. is_some (node_deed w n (only_where (is_node config n) (node_hears (w.nodes n) y))) ≡ true) (sym at)
+          (node_some w n (is_node config n) (node_step (w.nodes n) (node.Deliver x)) there (takes_own (w.nodes n) x n (moves.0.shows.placed n).number to))
+    ] refl sent
+  where
+    nowhere : WasSentTo (Node n) number [] → ⊥
+    nowhere s = let at = s.1.0 in absurd (cc)

@@ -1,0 +1,8 @@
+use Rattle.std.proofs.Common.{subst}
+use Rattle.fal_story.specs.Run.{IsLegal}
+use Rattle.fal_story.specs.Told.{Told}
+use Rattle.fal_alone.proofs.NodeRows.{quiet_rows}
+use Rattle.fal_alone.proofs.law.quiet_is_tree.Goals as goal
+
+pub returns : goal.returns
+returns c = quiet_rows c.args.cluster.now (subst (λ (told : Told). IsLegal told.config told.events) c.cluster.view_is c.legal.ensures)

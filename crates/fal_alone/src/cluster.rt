@@ -1,0 +1,204 @@
+ghost use Rattle.std.specs.Prelude.{◌≡◌, ◌↔◌, [], OnOk, OnErr, IfOk, IsErrOf, IsNone, Some, None, slice_get};
+ghost use Rattle.fal_base.specs.declared.event.Envelope.{Envelope as EnvelopeSeen};
+ghost use Rattle.fal_base.specs.declared.event.Event.TheVariants as event_seen;
+ghost use Rattle.fal_base.specs.declared.refuse.Refuse.TheVariants as refuse;
+ghost use Rattle.fal_story.specs.Clusters.{IsCluster};
+ghost use Rattle.fal_alone.specs.Queues.{WasSentTo};
+ghost use Rattle.fal_alone.specs.Turns.{envelopes_of, with_event, deed_after, IsEventOfClient, IsEventOfNode};
+
+use crate::follow::{Counts, client_event, node_event};
+use crate::opening::{clients_of, nodes_of, queues_of};
+use crate::queue::Queue;
+use fal_base::{Actor, Config, Duplicate, Envelope, Event, OutOfMemory, Refuse};
+use fal_client::{Client, ClientEvent};
+use fal_node::{Node, NodeEvent};
+use fal_story::Book;
+use std::alloc::Global;
+use std::marker::Model;
+
+/// A book with all actors of its cluster, each equal to the replay of its own events. Contracts see the book's cluster and events.
+#[derive(Debug, Drop)]
+pub struct Cluster {
+    pub(crate) alloc: Global,
+    pub(crate) book: Book,
+    pub(crate) clients: Vec<Client>,
+    pub(crate) nodes: Vec<Node>,
+    pub(crate) queues: Vec<Queue>,
+}
+
+impl Model for Cluster {
+    ghost use Rattle.fal_story.specs.Told.{Told};
+    ghost use Rattle.fal_alone.specs.Whole.{IsWhole};
+
+    ghost Value = { Told };
+
+    ghost view = { λ c. c.book };
+
+    ghost invariant = { λ c. IsWhole c.book.config c.book.events c.clients.items c.nodes.items c.queues.items };
+}
+
+impl Cluster {
+    /// A cluster before its first event. Answers want of memory where there is too little.
+    pub fn new(alloc: Global, config: Config) -> Result<Cluster, OutOfMemory>
+        requires { IsCluster config }
+        ensures { IfOk result (λ cluster. cluster ≡ record { config = config; events = [] }) }
+    {
+        let clients = clients_of(alloc, &config)?;
+        let nodes = nodes_of(alloc, &config)?;
+        let queues = queues_of(alloc, clients.len() + nodes.len())?;
+        Ok(Cluster {
+            alloc,
+            book: Book::new(alloc, config),
+            clients,
+            nodes,
+            queues,
+        })
+    }
+
+    /// The legal run so far. Takes no memory.
+    pub fn book(&self) -> &Book
+        ensures { result.now ≡ self.now }
+    {
+        &self.book
+    }
+
+    /// Hands the legal run over. Takes no memory.
+    pub fn into_book(self) -> Book
+        ensures { result ≡ self }
+    {
+        let Cluster {
+            alloc: _,
+            book,
+            clients: _clients,
+            nodes: _nodes,
+            queues: _queues,
+        } = self;
+        book
+    }
+
+    // The envelope of this number, if it was sent to this actor.
+    fn sent_to(&self, actor: Actor, number: u64) -> Result<Option<Envelope>, OutOfMemory>
+        ensures some { IfOk result (λ found. (envelope : EnvelopeSeen) → found ≡ Some envelope → (slice_get (envelopes_of self.now) number ≡ Some envelope) × (envelope.to ≡ actor)) }
+        ensures none { IfOk result (λ found. found ≡ None → WasSentTo actor number (envelopes_of self.now) → ⊥) }
+        ensures err { OnErr result (WasSentTo actor number (envelopes_of self.now)) }
+    {
+        let Some(envelope) = self.book.sent().get(number as usize) else {
+            return Ok(None);
+        };
+        if envelope.to != actor {
+            return Ok(None);
+        }
+        Ok(Some(envelope.copy()?))
+    }
+
+    // An event of a lane's client.
+    fn client_takes(&mut self, event: Event, lane: u8, own: ClientEvent) -> Result<(), Refuse>
+        requires { IsEventOfClient self.old event lane own }
+        ensures ok { OnOk result (self.new ≡ with_event self.old event) }
+        ensures err { OnErr result (self.new ≡ self.old) }
+        ensures refused { IsErrOf result refuse.NotEnabled ↔ IsNone (deed_after self.old event) }
+    {
+        let counts = Counts {
+            lanes: self.clients.len(),
+            nodes: self.nodes.len(),
+        };
+        let place = usize::from(lane);
+        if place < 1 || place > counts.lanes {
+            return Err(Refuse::NotEnabled);
+        }
+        let client = &mut self.clients[place - 1];
+        client_event(
+            &mut self.book,
+            client,
+            self.queues.as_mut_slice(),
+            counts,
+            event,
+            lane,
+            &own,
+        )?;
+        Ok(())
+    }
+
+    // An event of a node.
+    fn node_takes(&mut self, event: Event, number: u8, own: NodeEvent) -> Result<(), Refuse>
+        requires { IsEventOfNode self.old event number own }
+        ensures ok { OnOk result (self.new ≡ with_event self.old event) }
+        ensures err { OnErr result (self.new ≡ self.old) }
+        ensures refused { IsErrOf result refuse.NotEnabled ↔ IsNone (deed_after self.old event) }
+    {
+        let counts = Counts {
+            lanes: self.clients.len(),
+            nodes: self.nodes.len(),
+        };
+        let place = usize::from(number);
+        if place >= counts.nodes {
+            return Err(Refuse::NotEnabled);
+        }
+        let node = &mut self.nodes[place];
+        node_event(
+            &mut self.book,
+            node,
+            self.queues.as_mut_slice(),
+            counts,
+            event,
+            number,
+            &own,
+        )?;
+        Ok(())
+    }
+
+    // A record comes to a lane.
+    fn get(&mut self, event: Event, lane: u8, env: u64) -> Result<(), Refuse>
+        requires { event ≡ event_seen.Get lane env }
+        ensures ok { OnOk result (self.new ≡ with_event self.old event) }
+        ensures err { OnErr result (self.new ≡ self.old) }
+        ensures refused { IsErrOf result refuse.NotEnabled ↔ IsNone (deed_after self.old event) }
+    {
+        self.book.legal();
+        match self.sent_to(Actor::Client(lane), env) {
+            Err(OutOfMemory) => Err(Refuse::OutOfMemory),
+            Ok(None) => Err(Refuse::NotEnabled),
+            Ok(Some(envelope)) => self.client_takes(event, lane, ClientEvent::Get(envelope)),
+        }
+    }
+
+    // A record comes to a node.
+    fn deliver(&mut self, event: Event, node: u8, env: u64) -> Result<(), Refuse>
+        requires { event ≡ event_seen.Deliver node env }
+        ensures ok { OnOk result (self.new ≡ with_event self.old event) }
+        ensures err { OnErr result (self.new ≡ self.old) }
+        ensures refused { IsErrOf result refuse.NotEnabled ↔ IsNone (deed_after self.old event) }
+    {
+        self.book.legal();
+        match self.sent_to(Actor::Node(node), env) {
+            Err(OutOfMemory) => Err(Refuse::OutOfMemory),
+            Ok(None) => Err(Refuse::NotEnabled),
+            Ok(Some(envelope)) => self.node_takes(event, node, NodeEvent::Deliver(envelope)),
+        }
+    }
+
+    /// One event, after which the cluster's run has it at its end.
+    ///
+    /// Refused with `NotEnabled` exactly where the event is not enabled after the run: its lane or node is not there, its envelope was
+    /// never sent or was sent to another actor, its batch or item is not there or not ready, or there is nothing to send or to gather; and
+    /// with `OutOfMemory`. Then the run stays as it was.
+    pub fn step(&mut self, event: Event) -> Result<(), Refuse>
+        ensures ok { OnOk result (self.new ≡ with_event self.old event) }
+        ensures err { OnErr result (self.new ≡ self.old) }
+        ensures refused { IsErrOf result refuse.NotEnabled ↔ IsNone (deed_after self.old event) }
+    {
+        self.book.legal();
+        match event {
+            Event::Send { lane } => self.client_takes(event, lane, ClientEvent::Send),
+            Event::Get { lane, env } => self.get(event, lane, env),
+            Event::Deliver { node, env } => self.deliver(event, node, env),
+            Event::Gather { node } => self.node_takes(event, node, NodeEvent::Gather),
+            Event::Exec { node, batch } => self.node_takes(event, node, NodeEvent::Exec(batch)),
+            Event::Release { node, batch } => {
+                self.node_takes(event, node, NodeEvent::Release(batch))
+            }
+            Event::Serve { node, item } => self.node_takes(event, node, NodeEvent::Serve(item)),
+            Event::Hear { .. } | Event::Start => Err(Refuse::NotEnabled),
+        }
+    }
+}
