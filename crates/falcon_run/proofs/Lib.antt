@@ -1,6 +1,11 @@
-pub mod Built
-pub mod FirstLine
-pub mod Served
-pub mod Serves
-pub mod Words
+pub mod AllAnswered
+pub mod GoodPaths
+pub mod InRange
+pub mod OpeningServed
 pub mod Owed
+pub mod ScriptLanes
+pub mod SendCounts
+pub mod Serials
+pub mod ServedLines
+pub mod Wants
+pub mod Words

@@ -1,15 +1,14 @@
 -- What a source that tells its bytes gave.
-use Rattle.std.proofs.Common.{◌≡◌, ℕ, ◌+◌, ◌<◌, ◌≤◌, ◌⊎◌, inl, inr, Bool, true, false, List, [], ◌++◌, length, Option, Some, None, Result, Ok, Err, refl, sym, ap, ◌∙◌, subst, cond, nat_lt, arith, length-append, append-nil, Vec}
+use Rattle.std.proofs.Common.{◌≡◌, ℕ, ◌+◌, ◌<◌, ◌≤◌, ◌⊎◌, inl, inr, Bool, true, false, List, [], ◌++◌, length, Option, Some, None, Result, Ok, Err, refl, sym, ap, ◌∙◌, subst, cond, nat_lt, arith, length-append, append-nil}
 use Rattle.std.proofs.lemmas.Bool.Decides.{nat_tests}
-use Rattle.std.specs.declared.alloc.Global.{Global}
 use Rattle.std.specs.Io.KnownBytes.{Consumes, Appends, IsAtEnd}
-use Rattle.fal_base.specs.declared.call.Call.{Call}
 use Rattle.fal_io.specs.Causes.{Rose}
+use Rattle.fal_script.specs.declared.script.Script.{Script}
+use Rattle.fal_script.specs.Script.{script_of}
 use Rattle.falcon_run.specs.declared.reading.Unread.{Unread}
 use Rattle.falcon_run.specs.declared.reading.Unread.TheVariants.{ReadFault, TooLarge, NoScript, OutOfMemory}
-use Rattle.falcon_run.specs.Headline.{HasTooMany, owed, owed_calls}
+use Rattle.falcon_run.specs.Headline.{HasTooMany, owed, owed_script}
 use Rattle.falcon_run.specs.Reading.{Reads, OwedFor}
-use Rattle.falcon_run.specs.Script.{script_of}
 
 below : (a b : ℕ) → a < b → nat_lt a b ≡ true
 below a b lt = grind (arith, nat_tests)
@@ -26,40 +25,40 @@ front_taken : (bytes taken : List ℕ) (rest : Option (List ℕ)) → Consumes (
 front_taken bytes taken None consumed = absurd consumed
 front_taken bytes taken (Some left) consumed = let sum : length bytes ≡ length taken + length left = ap length consumed ∙ length-append taken left in omega arith
 
-within : (bytes : List ℕ) → length bytes ≤ 16777216 → owed bytes ≡ owed_calls (script_of bytes)
-within bytes few = ap (λ b. cond b 7 (owed_calls (script_of bytes))) (not_below 16777216 (length bytes) few)
+within : (bytes : List ℕ) → length bytes ≤ 16777216 → owed bytes ≡ owed_script (script_of bytes)
+within bytes few = ap (λ b. cond b 7 (owed_script (script_of bytes))) (not_below 16777216 (length bytes) few)
 
-owed_script : (bytes taken : List ℕ) (rest : Option (List ℕ)) (calls : List Call) → Consumes (Some bytes) rest taken → IsAtEnd rest → length taken ≤ 16777216 → script_of taken ≡ Some calls
-    → length calls ≤ 10000 → owed bytes ≡ 0
-owed_script bytes taken rest calls consumed end small script few =
+script_owed : (bytes taken : List ℕ) (rest : Option (List ℕ)) (script : Script) → Consumes (Some bytes) rest taken → IsAtEnd rest → length taken ≤ 16777216 → script_of taken ≡ Some script
+    → length script.lines ≤ 10000 → owed bytes ≡ 0
+script_owed bytes taken rest script consumed end small is few =
     let same = all_taken bytes taken rest consumed end in
-    ap owed same ∙ within taken small ∙ ap owed_calls script ∙ ap (λ b. cond b 7 0) (not_below 10000 (length calls) few)
+    ap owed same ∙ within taken small ∙ ap owed_script is ∙ ap (λ b. cond b 7 0) (not_below 10000 (length script.lines) few)
 
-owed_none : (bytes taken : List ℕ) (rest : Option (List ℕ)) → Consumes (Some bytes) rest taken → IsAtEnd rest → length taken ≤ 16777216 → script_of taken ≡ None → owed bytes ≡ 3
-owed_none bytes taken rest consumed end small script =
+none_owed : (bytes taken : List ℕ) (rest : Option (List ℕ)) → Consumes (Some bytes) rest taken → IsAtEnd rest → length taken ≤ 16777216 → script_of taken ≡ None → owed bytes ≡ 3
+none_owed bytes taken rest consumed end small script =
     let same = all_taken bytes taken rest consumed end in
-    ap owed same ∙ within taken small ∙ ap owed_calls script
+    ap owed same ∙ within taken small ∙ ap owed_script script
 
-too_many : (b : Bool) (calls : Option (List Call)) → owed_calls calls ≡ 7 → cond b 7 (owed_calls calls) ≡ 7
-too_many true calls is = refl
-too_many false calls is = is
+too_many : (b : Bool) (script : Option Script) → owed_script script ≡ 7 → cond b 7 (owed_script script) ≡ 7
+too_many true script is = refl
+too_many false script is = is
 
-owed_large : (bytes taken : List ℕ) (rest : Option (List ℕ)) → Consumes (Some bytes) rest taken → (16777216 < length taken) ⊎ (IsAtEnd rest × HasTooMany taken) → owed bytes ≡ 7
-owed_large bytes taken rest consumed (inl many) =
+large_owed : (bytes taken : List ℕ) (rest : Option (List ℕ)) → Consumes (Some bytes) rest taken → (16777216 < length taken) ⊎ (IsAtEnd rest × HasTooMany taken) → owed bytes ≡ 7
+large_owed bytes taken rest consumed (inl many) =
     let front = front_taken bytes taken rest consumed in
-    ap (λ b. cond b 7 (owed_calls (script_of bytes))) (below 16777216 (length bytes) (omega arith))
-owed_large bytes taken rest consumed (inr whole) =
+    ap (λ b. cond b 7 (owed_script (script_of bytes))) (below 16777216 (length bytes) (omega arith))
+large_owed bytes taken rest consumed (inr whole) =
     let same = all_taken bytes taken rest consumed whole.0 in
-    ap owed same ∙ too_many (nat_lt 16777216 (length taken)) (script_of taken) (ap owed_calls whole.1.1 ∙ ap (λ b. cond b 7 0) (below 10000 (length whole.1.0) whole.1.2))
+    ap owed same ∙ too_many (nat_lt 16777216 (length taken)) (script_of taken) (ap owed_script whole.1.1 ∙ ap (λ b. cond b 7 0) (below 10000 (length whole.1.0.lines) whole.1.2))
 
-pub reads_owed : (bytes : List ℕ) (rest : Option (List ℕ)) (before now : ℕ) (result : Result (Vec Call Global) Unread) → Reads (Some bytes) rest before now result → (Rose before now → ⊥) → OwedFor result bytes
-reads_owed bytes rest before now (Ok calls) is calm = owed_script bytes is.0 rest calls.items is.1 is.2 is.3 is.4 is.5
+pub reads_owed : (bytes : List ℕ) (rest : Option (List ℕ)) (before now : ℕ) (result : Result Script Unread) → Reads (Some bytes) rest before now result → (Rose before now → ⊥) → OwedFor result bytes
+reads_owed bytes rest before now (Ok script) is calm = script_owed bytes is.0 rest script is.1 is.2 is.3 is.4 is.5
 reads_owed bytes rest before now (Err ReadFault) is calm = calm is
-reads_owed bytes rest before now (Err TooLarge) is calm = owed_large bytes is.0 rest is.1 is.2
-reads_owed bytes rest before now (Err NoScript) is calm = owed_none bytes is.0 rest is.1 is.2 is.3 is.4
+reads_owed bytes rest before now (Err TooLarge) is calm = large_owed bytes is.0 rest is.1 is.2
+reads_owed bytes rest before now (Err NoScript) is calm = none_owed bytes is.0 rest is.1 is.2 is.3 is.4
 reads_owed bytes rest before now (Err OutOfMemory) is calm = tt
 
-pub told : (bytes : List ℕ) (left rest : Option (List ℕ)) (before now : ℕ) (result : Result (Vec Call Global) Unread) → left ≡ Some bytes → Reads left rest before now result → (Rose before now → ⊥) → OwedFor result bytes
+pub told : (bytes : List ℕ) (left rest : Option (List ℕ)) (before now : ℕ) (result : Result Script Unread) → left ≡ Some bytes → Reads left rest before now result → (Rose before now → ⊥) → OwedFor result bytes
 told bytes left rest before now result tells is calm = reads_owed bytes rest before now result (subst (λ l. Reads l rest before now result) tells is) calm
 
 -- nothing was appended

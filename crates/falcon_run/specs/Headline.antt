@@ -3,25 +3,27 @@ use Rattle.std.specs.Prelude.{◌≡◌, ◌⊎◌, ℕ, ◌<◌, ◌≤◌, nat
 use Rattle.std.specs.declared.string.String.{String}
 use Rattle.std.specs.declared.alloc.Global.{Global}
 use Rattle.std.specs.Io.KnownBytes.{Consumes, Appends, IsAtEnd}
-use Rattle.fal_base.specs.declared.call.Call.{Call}
 use Rattle.fal_base.specs.declared.call.Config.{Config}
-use Rattle.fal_base.specs.Tree.{lines_of}
+use Rattle.fal_base.specs.declared.event.Event.{Event}
 use Rattle.fal_io.specs.Causes.{Rose, AppendsFront}
-use Rattle.fal_report.specs.Transcripts.{transcript_text}
-use Rattle.falcon_run.specs.Script.{script_of}
-use Rattle.falcon_run.specs.Serial.{entries_of, state_after, opening}
+use Rattle.fal_script.specs.declared.script.Script.{Script}
+use Rattle.fal_script.specs.Configs.{config_of_script}
+use Rattle.fal_script.specs.Script.{script_of}
+use Rattle.fal_story.specs.Run.{IsLegal}
+use Rattle.falcon_run.specs.Recorded.{IsRecorded, run_text}
+use Rattle.falcon_run.specs.Serial.{order_of}
 
 -- the words are the one word
 abbrev pub IsSerial : List (String Global) → Type 0
 IsSerial words = map string_bytes words ≡ codes "serial" ∷ []
 
--- one node, one lane, batches of one call
-abbrev pub config_of : List Call → Config
-config_of calls = record { nodes = 1; batch = 1; lanes = calls ∷ [] }
+-- the cluster of a script. A batch takes one call
+abbrev pub cluster_of : Script → Config
+cluster_of script = config_of_script script 1
 
--- the text of a script's entries, line by line, and of the tree that they leave
-unfoldable pub transcript_of : List Call → List ℕ
-transcript_of calls = transcript_text (config_of calls) (entries_of opening calls) (lines_of (state_after opening calls).tree)
+-- these are the cluster of the script and its one run
+abbrev pub IsRunOf : Script → Config → List Event → Type 0
+IsRunOf script config events = (config ≡ cluster_of script) × IsRecorded config (order_of script.lines) events
 
 -- the line that is written with a status, where one is
 abbrev pub usage_line : List ℕ
@@ -38,12 +40,12 @@ large_line = codes "falcon: too large\n"
 
 -- the bytes are a script of more calls than are served
 abbrev pub HasTooMany : List ℕ → Type 0
-HasTooMany bytes = (calls : List Call) × (script_of bytes ≡ Some calls) × (10000 < length calls)
+HasTooMany bytes = (script : Script) × (script_of bytes ≡ Some script) × (10000 < length script.lines)
 
 -- the source gave all that it had, a script of not too many calls
-abbrev pub GaveScript : Option (List ℕ) → Option (List ℕ) → List Call → Type 0
-GaveScript left rest calls =
-    (bytes : List ℕ) × Consumes left rest bytes × IsAtEnd rest × (length bytes ≤ 16777216) × (script_of bytes ≡ Some calls) × (length calls ≤ 10000)
+abbrev pub GaveScript : Option (List ℕ) → Option (List ℕ) → Script → Type 0
+GaveScript left rest script =
+    (bytes : List ℕ) × Consumes left rest bytes × IsAtEnd rest × (length bytes ≤ 16777216) × (script_of bytes ≡ Some script) × (length script.lines ≤ 10000)
 
 -- the source gave all that it had, within the limit, and that is no script
 abbrev pub GaveNoScript : Option (List ℕ) → Option (List ℕ) → Type 0
@@ -57,38 +59,43 @@ GaveTooMuch left rest = (bytes : List ℕ) × Consumes left rest bytes × ((1677
 abbrev pub LostFront : Option (List ℕ) → Option (List ℕ) → Type 0
 LostFront left rest = (bytes : List ℕ) × Consumes left rest bytes
 
-abbrev pub owed_calls : Option (List Call) → ℕ
-owed_calls None = 3
-owed_calls (Some calls) = if nat_lt 10000 (length calls) then 7 else 0
+abbrev pub owed_script : Option Script → ℕ
+owed_script None = 3
+owed_script (Some script) = if nat_lt 10000 (length script.lines) then 7 else 0
 
 -- the status that these bytes are owed where no stream fails
 abbrev pub owed : List ℕ → ℕ
-owed bytes = if nat_lt 16777216 (length bytes) then 7 else owed_calls (script_of bytes)
+owed bytes = if nat_lt 16777216 (length bytes) then 7 else owed_script (script_of bytes)
 
 -- a text was appended whole, or only a front of it where the count of faults has risen
 abbrev pub Wrote : List ℕ → Option (List ℕ) → Option (List ℕ) → ℕ → ℕ → Type 0
 Wrote text held holds before now = Appends held holds text ⊎ (Rose before now × AppendsFront held holds text)
 
--- with want of memory: what was written is a front of the text of the script that was read, or of a refusal's line
-abbrev pub IsWritten : Option (List ℕ) → Option (List ℕ) → List ℕ → Type 0
-IsWritten left rest text =
+-- with want of memory: what was written is a front of the text of the script's run, or of a refusal's line
+abbrev pub IsWritten : Option (List ℕ) → Option (List ℕ) → Option Config → List Event → List ℕ → Type 0
+IsWritten left rest traced events text =
     (text ≡ usage_line) ⊎ (text ≡ script_line) ⊎ (text ≡ fault_line) ⊎ (text ≡ large_line)
-    ⊎ ((calls : List Call) × GaveScript left rest calls × (text ≡ transcript_of calls))
+    ⊎ ((script : Script) × ((config : Config) × (GaveScript left rest script × (traced ≡ Some config) × IsRunOf script config events × (text ≡ run_text config events))))
 
--- with status 0: the source gave a script and nothing is left of it, the sink got its text, and the trace has its config
-abbrev pub IsDone : Option (List ℕ) → Option (List ℕ) → Option (List ℕ) → Option (List ℕ) → Option Config → Type 0
-IsDone left rest held holds config =
-    (calls : List Call) × GaveScript left rest calls × Appends held holds (transcript_of calls) × (config ≡ Some (config_of calls))
+-- the trace has no run, or a legal one of the script's cluster
+abbrev pub IsTraced : Option (List ℕ) → Option (List ℕ) → Option Config → List Event → Type 0
+IsTraced left rest None events = events ≡ []
+IsTraced left rest (Some config) events = (script : Script) × (GaveScript left rest script × (config ≡ cluster_of script) × IsLegal config events)
 
--- with status 5: the source gave a script, the sink failed and got a front of its text, and the trace has its config
-abbrev pub IsCutOff : Option (List ℕ) → Option (List ℕ) → Option (List ℕ) → Option (List ℕ) → Option Config → Type 0
-IsCutOff left rest held holds config =
-    (calls : List Call) × GaveScript left rest calls × AppendsFront held holds (transcript_of calls) × (config ≡ Some (config_of calls))
+-- with status 0: the source gave a script and nothing is left of it, the trace has the script's cluster and its one run, and the sink got its text
+abbrev pub IsDone : Option (List ℕ) → Option (List ℕ) → Option (List ℕ) → Option (List ℕ) → Option Config → List Event → Type 0
+IsDone left rest held holds traced events =
+    (script : Script) × ((config : Config) × (GaveScript left rest script × (traced ≡ Some config) × IsRunOf script config events × Appends held holds (run_text config events)))
 
--- with status 6: a front of a text was written, and the trace has the config of the script that was read or none
-pub record WantsMemory (left rest held holds : Option (List ℕ)) (config : Option Config) : Type 0 where
+-- with status 5: the same, but the sink failed and got a front of the text
+abbrev pub IsCutOff : Option (List ℕ) → Option (List ℕ) → Option (List ℕ) → Option (List ℕ) → Option Config → List Event → Type 0
+IsCutOff left rest held holds traced events =
+    (script : Script) × ((config : Config) × (GaveScript left rest script × (traced ≡ Some config) × IsRunOf script config events × AppendsFront held holds (run_text config events)))
+
+-- with status 6: a front of a text was written, and the trace has a legal run of the script's cluster or none
+pub record WantsMemory (left rest held holds : Option (List ℕ)) (traced : Option Config) (events : List Event) : Type 0 where
   pub text : List ℕ
-  pub is_written : IsWritten left rest text
+  pub is_written : IsWritten left rest traced events text
   pub front : AppendsFront held holds text
   pub lost : LostFront left rest
-  pub traced : (config ≡ None) ⊎ ((calls : List Call) × GaveScript left rest calls × (config ≡ Some (config_of calls)))
+  pub run : IsTraced left rest traced events

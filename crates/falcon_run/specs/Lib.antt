@@ -1,11 +1,6 @@
 pub mod Answers
-pub mod Calls
 pub mod Headline
-pub mod Lines
-pub mod Numbers
-pub mod Reached
 pub mod Reading
-pub mod Script
-pub mod Seen
+pub mod Recorded
 pub mod Serial
-pub mod Served
+pub mod Serving

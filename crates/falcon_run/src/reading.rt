@@ -2,9 +2,9 @@ ghost use Rattle.std.specs.Prelude.{◌≡◌, Option, Some, Result, List, ℕ};
 ghost use Rattle.fal_io.specs.Causes.{Rose};
 ghost use Rattle.falcon_run.specs.Reading.{IsReading, IsScript, OwedFor};
 
-use crate::script;
-use fal_base::{Call, OutOfMemory};
+use fal_base::OutOfMemory;
 use fal_io::{ReadAll, Source, read_all};
+use fal_script::{Script, read};
 use std::alloc::Global;
 
 const BYTES: usize = 16_777_216;
@@ -20,16 +20,16 @@ pub enum Unread {
     OutOfMemory,
 }
 
-// The calls of a script that was read whole.
-fn script_calls(alloc: Global, bytes: &[u8]) -> Result<Vec<Call>, Unread>
+// The script of bytes that were read whole.
+fn script_of(alloc: Global, bytes: &[u8]) -> Result<Script, Unread>
     ensures { IsScript bytes.now result }
 {
-    match script::read(alloc, bytes) {
-        Ok(Some(calls)) => {
-            if calls.len() > CALLS {
+    match read(alloc, bytes) {
+        Ok(Some(script)) => {
+            if script.lines.len() > CALLS {
                 Err(Unread::TooLarge)
             } else {
-                Ok(calls)
+                Ok(script)
             }
         }
         Ok(None) => Err(Unread::NoScript),
@@ -38,18 +38,18 @@ fn script_calls(alloc: Global, bytes: &[u8]) -> Result<Vec<Call>, Unread>
 }
 
 /// Reads all that is left of the source, as a script of at most 10,000 calls in at most 16,777,216 bytes.
-pub fn read_script<S: Source>(alloc: Global, source: &mut S) -> Result<Vec<Call>, Unread>
+pub fn read_script<S: Source>(alloc: Global, source: &mut S) -> Result<Script, Unread>
     ensures reading { IsReading (S.left source.old) (S.left source.new) (S.faults source.old) (S.faults source.new) result }
     ensures owed { (bytes : List ℕ) → S.left source.old ≡ Some bytes → (Rose (S.faults source.old) (S.faults source.new) → ⊥) → OwedFor result bytes }
 {
-    read_calls(alloc, source)
+    read_bytes(alloc, source)
 }
 
-fn read_calls<S: Source>(alloc: Global, source: &mut S) -> Result<Vec<Call>, Unread>
+fn read_bytes<S: Source>(alloc: Global, source: &mut S) -> Result<Script, Unread>
     ensures { IsReading (S.left source.old) (S.left source.new) (S.faults source.old) (S.faults source.new) result }
 {
     match read_all(alloc, source, BYTES) {
-        Ok(bytes) => script_calls(alloc, &bytes),
+        Ok(bytes) => script_of(alloc, &bytes),
         Err(ReadAll::Fault) => Err(Unread::ReadFault),
         Err(ReadAll::TooLarge) => Err(Unread::TooLarge),
         Err(ReadAll::OutOfMemory) => Err(Unread::OutOfMemory),

@@ -40,6 +40,20 @@ fn mkdir_then_stat(rt: HostRuntime) -> Result<(), Fail> {
     Ok(())
 }
 
+// Two lanes take turns, and each of the keys lives at a node of its own.
+#[test]
+fn four_nodes_and_two_lanes(rt: HostRuntime) -> Result<(), Fail> {
+    let script =
+        b"falcon-script 1\nnodes 4\nlanes 2\n1 0:0 mkdir /data 755\n2 0:0 create /data/x 644\n1 1000:100 truncate /data/x 10\n2 1000:100 stat /data/x\n1 0:0 unlink /data/x\n";
+    let wanted =
+        b"falcon-transcript 1\nnodes 4\nlanes 2\nsent 1.1 0:0 mkdir /data 755\ncommit 1.1 257\nanswered 1.1 0 ok\nsent 2.1 0:0 create /data/x 644\ncommit 2.1 259\nanswered 2.1 1 ok\nsent 1.2 1000:100 truncate /data/x 10\nanswered 1.2 2 EACCES\nsent 2.2 1000:100 stat /data/x\nanswered 2.2 2 stat 259 file 644 0:0 0\nsent 1.3 0:0 unlink /data/x\ncommit 1.3 0\nanswered 1.3 2 ok\ntree 2\n0 / 1 dir 755 0:0 0\n1 data 257 dir 755 0:0 0\ncalls 5\nok 4\nfailed 1\ncommits 3\ndirectories 2\nfiles 0\n";
+    let ran = run(rt.alloc(), script)?;
+    assert_eq!(rt; ran.status, 0);
+    assert_eq!(rt; ran.text.as_slice(), wanted.as_slice());
+    assert!(rt; ran.is_traced);
+    Ok(())
+}
+
 #[test]
 fn checks_in_their_order(rt: HostRuntime) -> Result<(), Fail> {
     let calls =

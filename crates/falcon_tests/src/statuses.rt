@@ -56,10 +56,13 @@ fn other_lines_are_no_script(rt: HostRuntime) -> Result<(), Fail> {
 
 #[test]
 fn other_headers_are_no_script(rt: HostRuntime) -> Result<(), Fail> {
-    let table: [&[u8]; 5] = [
+    let table: [&[u8]; 8] = [
         b"",
         b"falcon-script 1\nnodes 1\n",
-        b"falcon-script 1\nnodes 2\nlanes 1\n",
+        b"falcon-script 1\nnodes 0\nlanes 1\n",
+        b"falcon-script 1\nnodes 17\nlanes 1\n",
+        b"falcon-script 1\nnodes 1\nlanes 0\n",
+        b"falcon-script 1\nnodes 1\nlanes 17\n",
         b"falcon-script 2\nnodes 1\nlanes 1\n",
         b"falcon-script 1\nlanes 1\nnodes 1\n",
     ];

@@ -1,18 +1,22 @@
-use Rattle.std.proofs.Common.{refl, inl, arith}
-use Rattle.falcon_run.specs.Headline.{usage_line}
-use Rattle.falcon_run.proofs.Built.{script_is_built}
-use Rattle.falcon_run.proofs.Owed.{nothing_appended}
+use Rattle.fal_script.proofs.Ranges.{script_in_range}
+use Rattle.falcon_run.proofs.InRange.{script_may_run}
+use Rattle.falcon_run.proofs.Wants.{reading_wants, run_wants}
 use Rattle.falcon_run.proofs.run.run_serial.Goals as goal
 
-pub run_calls-requires-clause-built : goal.run_calls-requires-clause-built
-run_calls-requires-clause-built g c = let read = c.in-Ok.ensures.reading.reads in script_is_built read.0 c.in-Ok.calls.items read.4
+pub run_script-requires-clause-cluster : goal.run_script-requires-clause-cluster
+run_script-requires-clause-cluster g c =
+    let gave = c.in-Ok.ensures.reading.reads in
+    script_may_run c.in-Ok.script (script_in_range gave.0 c.in-Ok.script gave.4) gave.5
+
+pub run_script-requires-clause-range : goal.run_script-requires-clause-range
+run_script-requires-clause-range g c = let gave = c.in-Ok.ensures.reading.reads in script_in_range gave.0 c.in-Ok.script gave.4
+
+pub returns-in-Ok-clause-memory : goal.returns-in-Ok-clause-memory
+returns-in-Ok-clause-memory g c is =
+    run_wants c.in-Ok.script (g.S.Source.left c.args.source.now) (g.S.Source.left c.read_script.new.source) (g.K.Sink.holds c.args.sink.now) (g.K.Sink.holds c.run_script.new.sink) c.run_script.new.trace.config
+    c.run_script.new.trace.events.items c.in-Ok.ensures.reading.reads c.read_script.ensures.reading.lost (c.run_script.ensures.memory is)
 
 pub returns-in-Err-OutOfMemory-clause-memory : goal.returns-in-Err-OutOfMemory-clause-memory
 returns-in-Err-OutOfMemory-clause-memory g c is =
-    record {
-      text = usage_line;
-      is_written = inl refl;
-      front = (0, omega arith, nothing_appended (g.K.Sink.holds c.args.sink.now));
-      lost = c.read_script.ensures.reading.lost;
-      traced = inl c.requires.config;
-    }
+    reading_wants (g.S.Source.left c.args.source.now) (g.S.Source.left c.read_script.new.source) (g.K.Sink.holds c.args.sink.now) c.args.trace.now.config c.args.trace.now.events.items c.read_script.ensures.reading.lost
+    c.requires.config c.requires.events

@@ -1,0 +1,4 @@
+pub mod FirstLine
+pub mod Lanes
+pub mod Ranges
+mod Rows

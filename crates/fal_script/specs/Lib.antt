@@ -1,0 +1,6 @@
+pub mod Calls
+pub mod Configs
+pub mod Lines
+pub mod Numbers
+pub mod Ranges
+pub mod Script

@@ -1,0 +1,16 @@
+//! Scripts: what their bytes spell, and the cluster that they ask for.
+//!
+//! A script is read line by line and word by word. Each function here answers what the definition of the same piece in `specs/` gives.
+#![tactic(auto)]
+
+mod calls;
+mod configs;
+mod lines;
+mod numbers;
+mod reading;
+mod script;
+mod words;
+
+pub use configs::config_of;
+pub use reading::read;
+pub use script::{LineList, Script, ScriptCall};

@@ -1,8 +1,0 @@
-use Rattle.falcon_run.proofs.FirstLine.{cut_some, no_line}
-use Rattle.falcon_run.proofs.script.lines.cut.Goals as goal
-
-pub returns-in-Some : goal.returns-in-Some
-returns-in-Some c = cut_some c.args.bytes.now c.split_at.result.0.now c.split_at.result.1.now c.split_at-in-Some.result.1.now c.in-Some.at c.in-Some.ensures c.split_at.ensures.front c.split_at.ensures.back c.split_at-in-Some.ensures.back
-
-pub returns-in-None : goal.returns-in-None
-returns-in-None c = no_line c.args.bytes.now c.in-None.ensures
