@@ -1,6 +1,6 @@
 use crate::making::{ROOT, path, two_lanes};
 use fal_alone::Cluster;
-use fal_base::{Actor, Call, CallList, Config, Cred, Entry, Event, Op, Refuse};
+use fal_base::{Actor, Call, CallList, Config, Cred, Entry, Event, Op, Refuse, Reply};
 use fal_tree::PlainTree;
 use rand_core::utils::NextWord;
 use rand_pcg::Lcg64Xsh32;
@@ -119,8 +119,20 @@ fn tree_at(
     Ok(tree)
 }
 
-fn is_of_tree(op: &Op) -> bool {
-    !matches!(op, Op::Place { .. })
+// Whether the plain tree answers the call with this reply at this point.
+fn is_answer(
+    alloc: Global,
+    config: &Config,
+    entries: &[Entry],
+    call: &Call,
+    point: u64,
+    reply: &Reply,
+) -> Result<bool, Fail> {
+    if let Op::Place { .. } = &call.op {
+        return Ok(false);
+    }
+    let tree = tree_at(alloc, config, entries, point)?;
+    Ok(tree.answer(&call.cred, &call.op)? == *reply)
 }
 
 // How many calls are answered as the plain tree answers at their points.
@@ -134,11 +146,9 @@ fn alike(alloc: Global, config: &Config, entries: &[Entry]) -> Result<u32, Fail>
             reply,
         } = entry
             && let Some(call) = call_of(config, *lane, *seq)
+            && is_answer(alloc, config, entries, call, *point, reply)?
         {
-            let tree = tree_at(alloc, config, entries, *point)?;
-            if tree.answer(&call.cred, &call.op)? == *reply {
-                count = count.saturating_add(1);
-            }
+            count = count.saturating_add(1);
         }
     }
     Ok(count)

@@ -76,7 +76,7 @@ fn a_reply_that_comes_again_changes_nothing(rt: HostRuntime) -> Result<(), Fail>
     cluster.step(Event::Send { lane: 1 })?;
     cluster.drain()?;
     let entries = cluster.book().transcript()?.len();
-    let last = cluster.book().sent().len() as u64 - 1;
+    let last = (cluster.book().sent().len() as u64).saturating_sub(1);
     cluster.step(Event::Get { lane: 1, env: last })?;
     assert_eq!(rt; cluster.book().transcript()?.len(), entries);
     assert!(rt; cluster.quiet());
