@@ -32,9 +32,9 @@ impl Model for Cluster {
 
     ghost Value = { Told };
 
-    ghost view = { λ c. c.book };
+    ghost view = { λ c. c.book.told };
 
-    ghost invariant = { λ c. IsWhole c.book.config c.book.events c.clients.items c.nodes.items c.queues.items };
+    ghost invariant = { λ c. IsWhole c.book.told.config c.book.told.events c.clients.items c.nodes.items c.queues.items };
 }
 
 impl Cluster {
@@ -57,14 +57,14 @@ impl Cluster {
 
     /// The legal run so far. Takes no memory.
     pub fn book(&self) -> &Book
-        ensures { result.now ≡ self.now }
+        ensures { result.now.told ≡ self.now }
     {
         &self.book
     }
 
     /// Hands the legal run over. Takes no memory.
     pub fn into_book(self) -> Book
-        ensures { result ≡ self }
+        ensures { result.told ≡ self }
     {
         let Cluster {
             alloc: _,

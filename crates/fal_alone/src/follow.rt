@@ -31,18 +31,18 @@ pub fn client_event(
     lane: u8,
     own: &ClientEvent,
 ) -> Result<(), Refuse>
-    requires is { IsEventOfClient book.old event lane own.now }
-    requires there { IsTrue (is_lane book.old.config lane) }
-    requires client { IsClientIn (world_of book.old) lane client.old }
+    requires is { IsEventOfClient book.old.told event lane own.now }
+    requires there { IsTrue (is_lane book.old.told.config lane) }
+    requires client { IsClientIn (world_of book.old.told) lane client.old }
     requires size { length queues.old ≡ counts.lanes + counts.nodes }
-    requires queues { HoldDue counts.lanes (came book.old.events) (envelopes_of book.old) queues.old }
-    ensures book { OnOk result (book.new ≡ with_event book.old event) }
-    ensures next { OnOk result (ClientNextIn (world_of book.old) (world_of (with_event book.old event)) lane client.new) }
-    ensures queues { OnOk result (HoldDue counts.lanes (came (with_event book.old event).events) (envelopes_of (with_event book.old event)) queues.new) }
-    ensures same_book { OnErr result (book.new ≡ book.old) }
+    requires queues { HoldDue counts.lanes (came book.old.told.events) (envelopes_of book.old.told) queues.old }
+    ensures book { OnOk result (book.new.told ≡ with_event book.old.told event) }
+    ensures next { OnOk result (ClientNextIn (world_of book.old.told) (world_of (with_event book.old.told event)) lane client.new) }
+    ensures queues { OnOk result (HoldDue counts.lanes (came (with_event book.old.told event).events) (envelopes_of (with_event book.old.told event)) queues.new) }
+    ensures same_book { OnErr result (book.new.told ≡ book.old.told) }
     ensures same_client { OnErr result (client.new ≡ client.old) }
     ensures same_queues { OnErr result ((numbers : ℕ → List ℕ) → Holds numbers queues.old → Holds numbers queues.new) }
-    ensures refused { IsErrOf result refuse.NotEnabled ↔ IsNone (deed_after book.old event) }
+    ensures refused { IsErrOf result refuse.NotEnabled ↔ IsNone (deed_after book.old.told event) }
 {
     book.legal();
     let from = book.sent().len();
@@ -62,18 +62,18 @@ pub fn node_event(
     number: u8,
     own: &NodeEvent,
 ) -> Result<(), Refuse>
-    requires is { IsEventOfNode book.old event number own.now }
-    requires there { IsTrue (is_node book.old.config number) }
-    requires node { IsNodeIn (world_of book.old) number node.old.state }
+    requires is { IsEventOfNode book.old.told event number own.now }
+    requires there { IsTrue (is_node book.old.told.config number) }
+    requires node { IsNodeIn (world_of book.old.told) number node.old.state }
     requires size { length queues.old ≡ counts.lanes + counts.nodes }
-    requires queues { HoldDue counts.lanes (came book.old.events) (envelopes_of book.old) queues.old }
-    ensures book { OnOk result (book.new ≡ with_event book.old event) }
-    ensures next { OnOk result (NodeNextIn (world_of book.old) (world_of (with_event book.old event)) number node.new.state) }
-    ensures queues { OnOk result (HoldDue counts.lanes (came (with_event book.old event).events) (envelopes_of (with_event book.old event)) queues.new) }
-    ensures same_book { OnErr result (book.new ≡ book.old) }
+    requires queues { HoldDue counts.lanes (came book.old.told.events) (envelopes_of book.old.told) queues.old }
+    ensures book { OnOk result (book.new.told ≡ with_event book.old.told event) }
+    ensures next { OnOk result (NodeNextIn (world_of book.old.told) (world_of (with_event book.old.told event)) number node.new.state) }
+    ensures queues { OnOk result (HoldDue counts.lanes (came (with_event book.old.told event).events) (envelopes_of (with_event book.old.told event)) queues.new) }
+    ensures same_book { OnErr result (book.new.told ≡ book.old.told) }
     ensures same_node { OnErr result (node.new.state ≡ node.old.state) }
     ensures same_queues { OnErr result ((numbers : ℕ → List ℕ) → Holds numbers queues.old → Holds numbers queues.new) }
-    ensures refused { IsErrOf result refuse.NotEnabled ↔ IsNone (deed_after book.old event) }
+    ensures refused { IsErrOf result refuse.NotEnabled ↔ IsNone (deed_after book.old.told event) }
 {
     book.legal();
     let from = book.sent().len();

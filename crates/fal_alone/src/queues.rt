@@ -64,11 +64,11 @@ fn give(queues: &mut [Queue], lanes: usize, nodes: usize, to: Actor, number: u64
 /// Puts the book's envelopes from this number on into the queues.
 pub fn catch_up(queues: &mut [Queue], lanes: usize, nodes: usize, book: &Book, from: usize)
     requires size { length queues.old ≡ lanes + nodes }
-    requires queues { HoldDue lanes (came book.now.events) (take from (envelopes_of book.now)) queues.old }
-    requires fresh { (k : ℕ) → from ≤ k → came book.now.events k ≡ false }
-    requires room { HaveRoom (length (envelopes_of book.now) - from) queues.old }
-    requires below { from ≤ length (envelopes_of book.now) }
-    ensures { HoldDue lanes (came book.now.events) (envelopes_of book.now) queues.new }
+    requires queues { HoldDue lanes (came book.now.told.events) (take from (envelopes_of book.now.told)) queues.old }
+    requires fresh { (k : ℕ) → from ≤ k → came book.now.told.events k ≡ false }
+    requires room { HaveRoom (length (envelopes_of book.now.told) - from) queues.old }
+    requires below { from ≤ length (envelopes_of book.now.told) }
+    ensures { HoldDue lanes (came book.now.told.events) (envelopes_of book.now.told) queues.new }
 {
     let sent = book.sent();
     for i in from..sent.len() {

@@ -20,11 +20,11 @@ fn note(
     event: Event,
     outputs: Outputs,
 ) -> Result<(), OutOfMemory>
-    requires { Follows book.old.config book.old.events event outputs.sent outputs.notes }
+    requires { Follows book.old.told.config book.old.told.events event outputs.sent outputs.notes }
     ensures queues { (numbers : ℕ → List ℕ) → Holds numbers queues.old → Holds numbers queues.new }
     ensures room { OnOk result (HaveRoom (length outputs.sent) queues.new) }
-    ensures book { OnOk result (book.new ≡ with_event book.old event) }
-    ensures same { OnErr result (book.new ≡ book.old) }
+    ensures book { OnOk result (book.new.told ≡ with_event book.old.told event) }
+    ensures same { OnErr result (book.new.told ≡ book.old.told) }
 {
     reserve(queues, outputs.sent.len())?;
     book.step(event, outputs)?;
@@ -40,17 +40,17 @@ pub fn client_turn(
     lane: u8,
     own: &ClientEvent,
 ) -> Result<(), Refuse>
-    requires is { IsEventOfClient book.old event lane own.now }
-    requires there { IsTrue (is_lane book.old.config lane) }
-    requires client { IsClientIn (world_of book.old) lane client.old }
+    requires is { IsEventOfClient book.old.told event lane own.now }
+    requires there { IsTrue (is_lane book.old.told.config lane) }
+    requires client { IsClientIn (world_of book.old.told) lane client.old }
     ensures queues { (numbers : ℕ → List ℕ) → Holds numbers queues.old → Holds numbers queues.new }
-    ensures book { OnOk result (book.new ≡ with_event book.old event) }
-    ensures next { OnOk result (ClientNextIn (world_of book.old) (world_of (with_event book.old event)) lane client.new) }
-    ensures takes { OnOk result (TakesItsOwn event (envelopes_of book.old)) }
-    ensures room { OnOk result (HaveRoom (sent_by book.old event) queues.new) }
-    ensures same_book { OnErr result (book.new ≡ book.old) }
+    ensures book { OnOk result (book.new.told ≡ with_event book.old.told event) }
+    ensures next { OnOk result (ClientNextIn (world_of book.old.told) (world_of (with_event book.old.told event)) lane client.new) }
+    ensures takes { OnOk result (TakesItsOwn event (envelopes_of book.old.told)) }
+    ensures room { OnOk result (HaveRoom (sent_by book.old.told event) queues.new) }
+    ensures same_book { OnErr result (book.new.told ≡ book.old.told) }
     ensures same_client { OnErr result (client.new ≡ client.old) }
-    ensures refused { IsErrOf result refuse.NotEnabled ↔ IsNone (deed_after book.old event) }
+    ensures refused { IsErrOf result refuse.NotEnabled ↔ IsNone (deed_after book.old.told event) }
 {
     book.legal();
     let mut prepared = client.ready(own)?;
@@ -76,17 +76,17 @@ pub fn node_turn(
     number: u8,
     own: &NodeEvent,
 ) -> Result<(), Refuse>
-    requires is { IsEventOfNode book.old event number own.now }
-    requires there { IsTrue (is_node book.old.config number) }
-    requires node { IsNodeIn (world_of book.old) number node.old.state }
+    requires is { IsEventOfNode book.old.told event number own.now }
+    requires there { IsTrue (is_node book.old.told.config number) }
+    requires node { IsNodeIn (world_of book.old.told) number node.old.state }
     ensures queues { (numbers : ℕ → List ℕ) → Holds numbers queues.old → Holds numbers queues.new }
-    ensures book { OnOk result (book.new ≡ with_event book.old event) }
-    ensures next { OnOk result (NodeNextIn (world_of book.old) (world_of (with_event book.old event)) number node.new.state) }
-    ensures takes { OnOk result (TakesItsOwn event (envelopes_of book.old)) }
-    ensures room { OnOk result (HaveRoom (sent_by book.old event) queues.new) }
-    ensures same_book { OnErr result (book.new ≡ book.old) }
+    ensures book { OnOk result (book.new.told ≡ with_event book.old.told event) }
+    ensures next { OnOk result (NodeNextIn (world_of book.old.told) (world_of (with_event book.old.told event)) number node.new.state) }
+    ensures takes { OnOk result (TakesItsOwn event (envelopes_of book.old.told)) }
+    ensures room { OnOk result (HaveRoom (sent_by book.old.told event) queues.new) }
+    ensures same_book { OnErr result (book.new.told ≡ book.old.told) }
     ensures same_node { OnErr result (node.new.state ≡ node.old.state) }
-    ensures refused { IsErrOf result refuse.NotEnabled ↔ IsNone (deed_after book.old event) }
+    ensures refused { IsErrOf result refuse.NotEnabled ↔ IsNone (deed_after book.old.told event) }
 {
     book.legal();
     let mut prepared = node.ready(own)?;

@@ -6,7 +6,7 @@ use fal_story::Book;
 /// Each call of a run is sent in its lane's order and answered at most once, before the lane's next one is sent; what else is recorded of it
 /// stands between the two, and it has one commit at most.
 pub fn each_once(book: &Book)
-    ensures { IsEachOnce book.now.config (transcript book.now.config book.now.events) }
+    ensures { IsEachOnce book.now.told.config (transcript book.now.told.config book.now.told.events) }
 {
     book.legal();
 }

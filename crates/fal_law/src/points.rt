@@ -8,8 +8,8 @@ use fal_story::Book;
 /// answering. So the calls have one sequential order, which keeps every order that was recorded between them, and in which one plain tree gives
 /// each call its reply.
 pub fn linear(book: &Book)
-    ensures linear { IsLinear book.now.config (transcript book.now.config book.now.events) }
-    ensures history { IsLegalHistory book.now.config (transcript book.now.config book.now.events) }
+    ensures linear { IsLinear book.now.told.config (transcript book.now.told.config book.now.told.events) }
+    ensures history { IsLegalHistory book.now.told.config (transcript book.now.told.config book.now.told.events) }
 {
     book.legal();
 }

@@ -1,5 +1,6 @@
 pub mod Actors
 pub mod Answered
+pub mod Arrivals
 pub mod Books
 pub mod CallSteps
 pub mod ClientEvent
@@ -46,6 +47,7 @@ pub mod InStep
 pub mod Joined
 pub mod LegalRuns
 pub mod Lists
+pub mod Machines
 pub mod Members
 pub mod MessageRanges
 pub mod Moves
@@ -59,14 +61,17 @@ pub mod MovingServe
 pub mod Newer
 pub mod NodeRanges
 pub mod NoneDue
+pub mod Noted
 pub mod NotedSteps
 pub mod OnWay
 pub mod Once
 pub mod OpenedFetches
 pub mod Opening
+pub mod Orders
 pub mod Outcomes
 pub mod Phase
 pub mod Posts
+pub mod Pushed
 pub mod Quiet
 pub mod Ranges
 pub mod Replays

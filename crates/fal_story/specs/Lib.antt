@@ -1,7 +1,11 @@
 pub mod AllRows
+pub mod Arriving
 pub mod Clusters
 pub mod Fresh
+pub mod Lasting
+pub mod Pushing
 pub mod Replay
+pub mod Rooms
 pub mod Run
 pub mod Told
 pub mod World

@@ -16,6 +16,17 @@ pub record Told : Type 0 where
   pub config : Config
   pub events : List Event
 
+-- how many more events, envelopes and entries a book takes before it needs memory
+pub record Room : Type 0 where
+  pub events : ℕ
+  pub sent : ℕ
+  pub entries : ℕ
+
+-- a book: what it tells, and its room
+pub record Seen : Type 0 where
+  pub told : Told
+  pub room : Room
+
 -- who makes an event
 abbrev pub actor_of : Event → Actor
 actor_of (event.Send lane) = Client lane

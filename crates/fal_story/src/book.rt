@@ -1,9 +1,10 @@
 ghost use Rattle.std.specs.Prelude.{◌≡◌, ◌∷◌, ◌++◌, [], ◌<◌, ◌^◌, OnOk, OnErr, IfOk, length};
 ghost use Rattle.fal_story.specs.Clusters.{IsCluster};
+ghost use Rattle.fal_story.specs.Rooms.{HasRoom};
 ghost use Rattle.fal_story.specs.Run.{Follows, IsLegal, commits_at, envelopes_at, run, transcript};
 ghost use Rattle.fal_story.specs.Told.{Told, actor_of as actor_told};
 
-use crate::post::{commits_in, entries, envelopes};
+use crate::post::{add_entries, add_envelopes, commits_in};
 use crate::told::Run;
 use fal_base::{Actor, Config, Duplicate, Entry, Envelope, Event, Items, OutOfMemory, Outputs};
 use std::alloc::Global;
@@ -24,17 +25,25 @@ pub struct Book {
 }
 
 impl Model for Book {
-    ghost use Rattle.fal_story.specs.Told.{Told, IsBook};
+    ghost use Rattle.std.specs.Prelude.{◌-◌, length, vec_capacity};
+    ghost use Rattle.fal_story.specs.Told.{Seen, IsBook};
 
-    ghost Value = { Told };
+    ghost Value = { Seen };
 
-    ghost view = { λ b. record { config = b.config; events = b.events.items } };
+    ghost view = { λ b. record {
+      told = record { config = b.config; events = b.events.items };
+      room = record {
+        events = vec_capacity b.events - length b.events.items;
+        sent = vec_capacity b.sent - length b.sent.items;
+        entries = vec_capacity b.entries - length b.entries.items;
+      };
+    } };
 
     ghost invariant = { λ b. IsBook b.config b.events.items b.sent.items b.entries.items b.commits };
 }
 
 // Who makes the event.
-fn actor_of(event: Event) -> Actor
+pub(crate) fn actor_of(event: Event) -> Actor
     ensures { result ≡ actor_told event }
 {
     match event {
@@ -62,7 +71,7 @@ impl Book {
     /// The book of a cluster before its first event. Takes no memory.
     pub fn new(alloc: Global, config: Config) -> Book
         requires { IsCluster config }
-        ensures { result ≡ record { config = config; events = [] } }
+        ensures { result.told ≡ record { config = config; events = [] } }
     {
         Book {
             alloc,
@@ -76,42 +85,42 @@ impl Book {
 
     /// That its events are a legal run of its cluster, which holds of every book.
     pub fn legal(&self)
-        ensures { IsLegal self.now.config self.now.events }
+        ensures { IsLegal self.now.told.config self.now.told.events }
     {
         let _ = &self.events;
     }
 
     /// The cluster.
     pub fn config(&self) -> &Config
-        ensures { result.now ≡ self.now.config }
+        ensures { result.now ≡ self.now.told.config }
     {
         &self.config
     }
 
     /// The events, in their order.
     pub fn events(&self) -> &[Event]
-        ensures { result.now ≡ self.now.events }
+        ensures { result.now ≡ self.now.told.events }
     {
         self.events.as_slice()
     }
 
     /// The envelopes that were sent, by their numbers.
     pub fn sent(&self) -> &[Envelope]
-        ensures { result.now ≡ envelopes_at (run self.now.config self.now.events) }
+        ensures { result.now ≡ envelopes_at (run self.now.told.config self.now.told.events) }
     {
         self.sent.as_slice()
     }
 
     /// How many commits were made.
     pub fn commits(&self) -> u64
-        ensures { result ≡ commits_at (run self.now.config self.now.events) }
+        ensures { result ≡ commits_at (run self.now.told.config self.now.told.events) }
     {
         self.commits
     }
 
     /// What the run records, or want of memory.
     pub fn transcript(&self) -> Result<Vec<Entry>, OutOfMemory>
-        ensures { IfOk result (λ entries. entries.items ≡ transcript self.now.config self.now.events) }
+        ensures { IfOk result (λ entries. entries.items ≡ transcript self.now.told.config self.now.told.events) }
     {
         copies(self.alloc, self.entries.as_slice())
     }
@@ -119,39 +128,52 @@ impl Book {
     /// One more event, which is enabled after this run, with the records and notes that it makes. Gives the event's number, from 0. Want of
     /// memory leaves the book as it was; a book of 2^63 - 1 events answers it to every further event.
     pub fn step(&mut self, event: Event, outputs: Outputs) -> Result<u64, OutOfMemory>
-        requires { Follows self.old.config self.old.events event outputs.sent outputs.notes }
-        ensures number { IfOk result (λ number. number ≡ length self.old.events) }
-        ensures ok { OnOk result (self.new ≡ record self.old { events = self.old.events ++ event ∷ [] }) }
-        ensures err { OnErr result (self.new ≡ self.old) }
+        requires { Follows self.old.told.config self.old.told.events event outputs.sent outputs.notes }
+        ensures number { IfOk result (λ number. number ≡ length self.old.told.events) }
+        ensures ok { OnOk result (self.new.told ≡ record self.old.told { events = self.old.told.events ++ event ∷ [] }) }
+        ensures err { OnErr result (self.new.told ≡ self.old.told) }
     {
+        self.make_room(&outputs)?;
         let number = self.events.len() as u64;
-        let Outputs { sent, notes } = outputs;
-        let mut sent = envelopes(self.alloc, actor_of(event), number, self.commits, sent)?;
-        let mut noted = entries(self.alloc, self.commits, notes)?;
-        let made = commits_in(noted.as_slice());
-        if number >= LIMIT - 1 || made >= LIMIT - self.commits {
+        self.put(event, outputs);
+        Ok(number)
+    }
+
+    // Makes room for one more event with these outputs, or answers want of memory.
+    pub(crate) fn make_room(&mut self, outputs: &Outputs) -> Result<(), OutOfMemory>
+        ensures same { self.new.told ≡ self.old.told }
+        ensures room { OnOk result (HasRoom self.new outputs.now) }
+    {
+        let made = commits_in(outputs.notes.as_slice());
+        if self.events.len() as u64 >= LIMIT - 1 || made >= LIMIT - self.commits {
             return Err(OutOfMemory);
         }
         self.events.reserve(1)?;
-        self.sent.reserve(sent.len())?;
-        self.entries.reserve(noted.len())?;
-        let Ok(()) = self.sent.append(&mut sent) else {
-            unreachable!()
-        };
-        let Ok(()) = self.entries.append(&mut noted) else {
-            unreachable!()
-        };
-        let Ok(()) = self.events.push(event) else {
-            unreachable!()
-        };
-        self.commits += made;
-        Ok(number)
+        self.sent.reserve(outputs.sent.len())?;
+        self.entries.reserve(outputs.notes.len())?;
+        Ok(())
+    }
+
+    // One more event, which is enabled after this run, with the records and notes that it makes. There is room for it.
+    pub(crate) fn put(&mut self, event: Event, outputs: Outputs)
+        requires follows { Follows self.old.told.config self.old.told.events event outputs.sent outputs.notes }
+        requires room { HasRoom self.old outputs }
+        ensures { self.new.told ≡ record self.old.told { events = self.old.told.events ++ event ∷ [] } }
+    {
+        let number = self.events.len() as u64;
+        let commits = self.commits;
+        let Outputs { sent, notes } = outputs;
+        let made = commits_in(notes.as_slice());
+        add_envelopes(&mut self.sent, actor_of(event), number, commits, sent);
+        add_entries(&mut self.entries, commits, notes);
+        self.events.push_reserved(event);
+        self.commits = commits + made;
     }
 
     /// Hands the run over.
     pub fn into_run(self) -> Run
-        ensures config { result.config ≡ self.config }
-        ensures events { result.events ≡ self.events }
+        ensures config { result.config ≡ self.told.config }
+        ensures events { result.events ≡ self.told.events }
     {
         let Book { config, events, .. } = self;
         Run {

@@ -2,10 +2,15 @@
 #![tactic(auto)]
 
 mod book;
+mod chronicle;
 mod cluster;
+mod inbox;
 mod post;
+mod pushing;
 mod told;
 
 pub use book::Book;
 pub use cluster::may_run;
+pub use inbox::{Arrived, Inbox};
+pub use pushing::{pushes_are_legal, pushes_last};
 pub use told::Run;

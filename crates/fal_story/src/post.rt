@@ -1,9 +1,8 @@
-ghost use Rattle.std.specs.Prelude.{◌≡◌, ◌<◌, ◌^◌, IfOk, count_by};
-ghost use Rattle.fal_base.specs.Transcript.{is_commit as is_commit_of};
+ghost use Rattle.std.specs.Prelude.{◌≡◌, ◌+◌, ◌<◌, ◌≤◌, ◌^◌, ◌++◌, length, count_by, vec_len, vec_capacity};
+ghost use Rattle.fal_story.specs.Rooms.{is_commit_note};
 ghost use Rattle.fal_story.specs.World.{point_of, envelope_of, envelopes_of, entry_of, entries_of};
 
-use fal_base::{Actor, Entry, Envelope, Note, NoteList, OutOfMemory, Output, OutputList, Point};
-use std::alloc::Global;
+use fal_base::{Actor, Entry, Envelope, Note, NoteList, Output, OutputList, Point};
 
 // The point of the commits, for an event that begins after so many of them.
 fn point_at(commits: u64, point: Point) -> u64
@@ -30,22 +29,21 @@ fn envelope(from: Actor, event: u64, commits: u64, output: Output) -> Envelope
     }
 }
 
-// The records of an event on their way, in their order.
-pub(crate) fn envelopes(
-    alloc: Global,
+// Puts the records of an event on their way, in their order, after what was sent before. There is room for them.
+pub(crate) fn add_envelopes(
+    sent: &mut Vec<Envelope>,
     from: Actor,
     event: u64,
     commits: u64,
     outputs: OutputList,
-) -> Result<Vec<Envelope>, OutOfMemory>
-    requires { commits < 2 ^ 63 }
-    ensures { IfOk result (λ sent. sent.items ≡ envelopes_of from event commits outputs) }
+)
+    requires few { commits < 2 ^ 63 }
+    requires room { vec_len sent.old + length outputs ≤ vec_capacity sent.old }
+    ensures { sent.new.items ≡ sent.old.items ++ envelopes_of from event commits outputs }
 {
-    let mut sent = Vec::new(alloc);
     for output in outputs.into_items() {
-        sent.push(envelope(from, event, commits, output))?;
+        sent.push_reserved(envelope(from, event, commits, output));
     }
-    Ok(sent)
 }
 
 fn entry(commits: u64, note: Note) -> Entry
@@ -92,35 +90,30 @@ fn entry(commits: u64, note: Note) -> Entry
     }
 }
 
-// What an event adds to the transcript, with its points resolved.
-pub(crate) fn entries(
-    alloc: Global,
-    commits: u64,
-    notes: NoteList,
-) -> Result<Vec<Entry>, OutOfMemory>
-    requires { commits < 2 ^ 63 }
-    ensures { IfOk result (λ entries. entries.items ≡ entries_of commits notes) }
+// Adds what an event tells to the transcript, with its points resolved. There is room for it.
+pub(crate) fn add_entries(entries: &mut Vec<Entry>, commits: u64, notes: NoteList)
+    requires few { commits < 2 ^ 63 }
+    requires room { vec_len entries.old + length notes ≤ vec_capacity entries.old }
+    ensures { entries.new.items ≡ entries.old.items ++ entries_of commits notes }
 {
-    let mut entries = Vec::new(alloc);
     for note in notes.into_items() {
-        entries.push(entry(commits, note))?;
+        entries.push_reserved(entry(commits, note));
     }
-    Ok(entries)
 }
 
-fn is_commit(entry: &Entry) -> bool
-    ensures { result ≡ is_commit_of entry.now }
+fn is_commit(note: &Note) -> bool
+    ensures { result ≡ is_commit_note note.now }
 {
-    matches!(entry, Entry::Commit { .. })
+    matches!(note, Note::Commit { .. })
 }
 
-// How many of the entries are commits.
-pub(crate) fn commits_in(entries: &[Entry]) -> u64
-    ensures { result ≡ count_by is_commit_of entries.now }
+// How many of the notes are commits.
+pub(crate) fn commits_in(notes: &[Note]) -> u64
+    ensures { result ≡ count_by is_commit_note notes.now }
 {
     let mut count = 0;
-    for entry in entries {
-        if is_commit(entry) {
+    for note in notes {
+        if is_commit(note) {
             count += 1;
         }
     }

@@ -8,25 +8,25 @@ use Rattle.fal_alone.proofs.follow.client_event.Goals as goal
 
 pub settle-requires-clause-rises : goal.settle-requires-clause-rises
 settle-requires-clause-rises c =
-    let told = c.args.book.now in
+    let told = c.args.book.now.told in
     let lanes = c.args.counts.lanes in
     held_rises lanes told c.client_turn.new.queues (c.client_turn.ensures.queues (λ place. due (actor_at lanes place) (came told.events) (envelopes_of told)) c.requires.queues)
 
 pub catch_up-requires-clause-queues : goal.catch_up-requires-clause-queues
 catch_up-requires-clause-queues c =
-    let told = c.args.book.now in
+    let told = c.args.book.now.told in
     let lanes = c.args.counts.lanes in
-    let after = after_client c.args.book.now c.client_turn.new.book c.args.event (length c.sent-from.result.now) c.args.lane c.client_turn.new.client c.in_ok-client_turn.ensures.book (ap (λ (xs : List Envelope). length xs) c.sent-from.ensures) c.in_ok-client_turn.ensures.next in
+    let after = after_client c.args.book.now.told c.client_turn.new.book.told c.args.event (length c.sent-from.result.now) c.args.lane c.client_turn.new.client c.in_ok-client_turn.ensures.book (ap (λ (xs : List Envelope). length xs) c.sent-from.ensures) c.in_ok-client_turn.ensures.next in
     let held = c.client_turn.ensures.queues (λ place. due (actor_at lanes place) (came told.events) (envelopes_of told)) c.requires.queues in
-    front_held lanes (length c.sent-from.result.now) told c.client_turn.new.book c.args.event c.settle.new.queues after (c.settle.ensures.items (came told.events) (envelopes_of told) c.in_ok-client_turn.ensures.takes held)
+    front_held lanes (length c.sent-from.result.now) told c.client_turn.new.book.told c.args.event c.settle.new.queues after (c.settle.ensures.items (came told.events) (envelopes_of told) c.in_ok-client_turn.ensures.takes held)
 
 pub catch_up-requires-clause-fresh : goal.catch_up-requires-clause-fresh
 catch_up-requires-clause-fresh c =
-    let after = after_client c.args.book.now c.client_turn.new.book c.args.event (length c.sent-from.result.now) c.args.lane c.client_turn.new.client c.in_ok-client_turn.ensures.book (ap (λ (xs : List Envelope). length xs) c.sent-from.ensures) c.in_ok-client_turn.ensures.next in
-    rest_fresh (length c.sent-from.result.now) c.args.book.now c.client_turn.new.book c.args.event after c.legal.ensures c.in_ok-client_turn.ensures.takes
+    let after = after_client c.args.book.now.told c.client_turn.new.book.told c.args.event (length c.sent-from.result.now) c.args.lane c.client_turn.new.client c.in_ok-client_turn.ensures.book (ap (λ (xs : List Envelope). length xs) c.sent-from.ensures) c.in_ok-client_turn.ensures.next in
+    rest_fresh (length c.sent-from.result.now) c.args.book.now.told c.client_turn.new.book.told c.args.event after c.legal.ensures c.in_ok-client_turn.ensures.takes
 
 pub catch_up-requires-clause-room : goal.catch_up-requires-clause-room
 catch_up-requires-clause-room c =
-    let told = c.args.book.now in
-    let after = after_client c.args.book.now c.client_turn.new.book c.args.event (length c.sent-from.result.now) c.args.lane c.client_turn.new.client c.in_ok-client_turn.ensures.book (ap (λ (xs : List Envelope). length xs) c.sent-from.ensures) c.in_ok-client_turn.ensures.next in
-    rest_fits (length c.sent-from.result.now) told c.client_turn.new.book c.args.event c.settle.new.queues after (c.settle.ensures.room (sent_by told c.args.event) c.in_ok-client_turn.ensures.room)
+    let told = c.args.book.now.told in
+    let after = after_client c.args.book.now.told c.client_turn.new.book.told c.args.event (length c.sent-from.result.now) c.args.lane c.client_turn.new.client c.in_ok-client_turn.ensures.book (ap (λ (xs : List Envelope). length xs) c.sent-from.ensures) c.in_ok-client_turn.ensures.next in
+    rest_fits (length c.sent-from.result.now) told c.client_turn.new.book.told c.args.event c.settle.new.queues after (c.settle.ensures.room (sent_by told c.args.event) c.in_ok-client_turn.ensures.room)

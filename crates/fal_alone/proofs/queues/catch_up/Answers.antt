@@ -6,7 +6,7 @@ use Rattle.fal_alone.proofs.queues.catch_up.Goals as goal
 
 pub loop-i-preserved : goal.loop-i-preserved
 loop-i-preserved c =
-    let seen = came c.args.book.now.events in
+    let seen = came c.args.book.now.told.events in
     let sent = c.sent-sent.result.now in
     let i = c.loop-i.i in
     let below : i < length sent = search rules in

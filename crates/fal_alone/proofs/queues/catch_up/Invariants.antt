@@ -5,6 +5,6 @@ use Rattle.fal_alone.proofs.queues.catch_up.Given as goal
 
 abbrev pub invariant-loop-i : goal.invariant-loop-i
 invariant-loop-i l = record {
-  queues : HoldDue l.lanes (came l.book.events) (take l.i l.sent) l.queues;
+  queues : HoldDue l.lanes (came l.book.told.events) (take l.i l.sent) l.queues;
   room : HaveRoom (length l.sent - l.i) l.queues;
 }

@@ -2,4 +2,4 @@ use Rattle.fal_story.proofs.Replays.{legal_is_replayed}
 use Rattle.fal_law.proofs.replay.replayed.Goals as goal
 
 pub returns : goal.returns
-returns c = legal_is_replayed c.args.book.now.config c.args.book.now.events c.legal.ensures
+returns c = legal_is_replayed c.args.book.now.told.config c.args.book.now.told.events c.legal.ensures

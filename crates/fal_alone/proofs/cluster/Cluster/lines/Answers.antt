@@ -8,8 +8,8 @@ use Rattle.fal_alone.proofs.cluster.Cluster.lines.Goals as goal
 
 pub returns : goal.returns
 returns c =
-    let config = c.self.inside.book.config in
-    let events = c.self.inside.book.events in
+    let config = c.self.inside.book.told.config in
+    let events = c.self.inside.book.told.events in
     let rows : c.in_ok-rows.rows.rows ≡ tree_left config events =
     c.in_ok-rows.ensures ∙ ap (λ (nodes : List Seen). all_rows (map (λ (n : Seen). n.state.rows) nodes)) c.deref.ensures.value
     ∙ whole_rows config events c.self.inside.clients.items c.self.inside.nodes.items c.self.inside.queues.items c.legal.ensures c.self.invariant in

@@ -11,9 +11,9 @@ returns-then-are_empty c =
     let empty = ap no_numbers (sym c.deref.ensures.value) ∙ sym c.are_empty.ensures ∙ c.if-are_empty.true in
     let quiet = c.are_quiet.ensures ∙ ap all_quiet c.deref-then-are_empty.ensures.value in (
       λ yes. subst (λ (told : Told). IsQuietAt told.config (world_of told) (came told.events)) c.self.view_is
-          (quiet_run inside.book.config inside.book.events inside.clients.items inside.nodes.items inside.queues.items c.self.invariant c.legal.ensures empty (sym quiet ∙ yes)),
+          (quiet_run inside.book.told.config inside.book.told.events inside.clients.items inside.nodes.items inside.queues.items c.self.invariant c.legal.ensures empty (sym quiet ∙ yes)),
       λ is. quiet
-          ∙ (run_quiet inside.book.config inside.book.events inside.clients.items inside.nodes.items inside.queues.items c.self.invariant
+          ∙ (run_quiet inside.book.told.config inside.book.told.events inside.clients.items inside.nodes.items inside.queues.items c.self.invariant
           (subst (λ (told : Told). IsQuietAt told.config (world_of told) (came told.events)) (sym c.self.view_is) is)).1,
     )
 
@@ -22,6 +22,6 @@ returns-else-are_empty c =
     let inside = c.self.inside in (
       λ yes. absurd cc,
       λ is. c.are_empty.ensures ∙ ap no_numbers c.deref.ensures.value
-          ∙ (run_quiet inside.book.config inside.book.events inside.clients.items inside.nodes.items inside.queues.items c.self.invariant
+          ∙ (run_quiet inside.book.told.config inside.book.told.events inside.clients.items inside.nodes.items inside.queues.items c.self.invariant
           (subst (λ (told : Told). IsQuietAt told.config (world_of told) (came told.events)) (sym c.self.view_is) is)).0,
     )

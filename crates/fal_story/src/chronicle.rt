@@ -1,0 +1,65 @@
+//! A book as a chronicle: its entries are the events of a legal run.
+ghost use Rattle.std.specs.Prelude.{◌≡◌, [], ◌∷◌, ◌++◌};
+
+use crate::book::{Book, actor_of};
+use crate::inbox::{Inbox, number_of};
+use fal_base::{Config, Event, OutOfMemory, Outputs};
+use fal_book::Chronicle;
+
+impl Chronicle for Book {
+    ghost use Rattle.fal_story.specs.Arriving.{Arrives};
+    ghost use Rattle.fal_story.specs.Pushing.{MayPush, actor_number};
+    ghost use Rattle.fal_story.specs.Rooms.{HasRoom};
+    ghost use Rattle.fal_story.specs.Lasting.{lasts};
+
+    type Event = Event;
+
+    type Outputs = Outputs;
+
+    type Inbox = Inbox;
+
+    type Setting = Config;
+
+    ghost entries = { λ book. book.told.events };
+
+    ghost setting = { λ book. book.told.config };
+
+    ghost actor_of = { actor_number };
+
+    ghost may_push = { MayPush };
+
+    ghost has_room = { HasRoom };
+
+    ghost inbox_gives = { Arrives };
+
+    ghost lasts = { lasts };
+
+    ghost roomy = { λ book outputs room. room.few };
+
+    #[tactic(auto, unfolding(crate::specs::Pushing::actor_number))]
+    fn actor(event: &Event) -> u8 {
+        number_of(actor_of(*event))
+    }
+
+    fn reserve(&mut self, outputs: &Outputs) -> Result<(), OutOfMemory> {
+        self.make_room(outputs)
+    }
+
+    #[tactic(auto, using(crate::proofs::Pushed::legal_sound))]
+    fn len(&self) -> u64 {
+        self.legal();
+        self.events().len() as u64
+    }
+
+    #[tactic(auto, using(crate::proofs::Pushed::pushed_follows))]
+    fn push(&mut self, event: Event, outputs: Outputs) {
+        self.legal();
+        self.put(event, outputs);
+    }
+
+    #[tactic(auto, using(crate::proofs::Orders::legal_in_order, crate::proofs::Pushed::legal_sent))]
+    fn inbox(&self, actor: u8, from: u64, into: &mut Inbox) -> Result<(), OutOfMemory> {
+        self.legal();
+        into.hear(actor, from, self.sent())
+    }
+}
