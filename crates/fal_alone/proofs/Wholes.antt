@@ -1,7 +1,7 @@
 -- A cluster in one value stays one: where only room changes, and after an event of one of its actors.
 use Rattle.std.proofs.Common.{◌≡◌, ◌≢◌, ⊎_elim, ℕ, zero, suc, ◌+◌, ◌<◌, Bool, List, [], ◌∷◌, ◌++◌, length, take, drop, set, get_or, Some, None, Option, refl, sym, ap, ◌∙◌, subst, arith}
 use Rattle.std.specs.Prelude.{slice_get}
-use Rattle.std.proofs.lemmas.List.{take-append-le}
+use Rattle.std.proofs.lemmas.List.{take-append-le, length-set}
 use Rattle.std.proofs.lemmas.Option.{same_Some}
 use Rattle.std.proofs.Math.Seq.{take-length}
 use Rattle.fal_base.specs.declared.call.Config.{Config}
@@ -12,28 +12,12 @@ use Rattle.fal_story.proofs.Lists.{put_same, put_other, tells}
 use Rattle.fal_story.specs.Fresh.{came}
 use Rattle.fal_story.specs.Run.{run, envelopes_at}
 use Rattle.fal_story.specs.World.{World}
+use Rattle.fal_alone.proofs.Places.{set_same, set_other}
 use Rattle.fal_alone.specs.Queues.{QueueSeen, Holds, HoldDue}
 use Rattle.fal_alone.specs.Turns.{ClientNextIn, NodeNextIn}
 use Rattle.fal_alone.specs.Whole.{IsWhole, IsWholeAt}
 
 -- ---- lists of which one item is changed
-
-set_same : {A : Type 0} (xs : List A) (k : ℕ) (x y : A) → slice_get xs k ≡ Some x → slice_get (set xs k y) k ≡ Some y
-set_same [] k x y at = absurd (cc)
-set_same (z ∷ xs) zero x y at = refl
-set_same (z ∷ xs) (suc k) x y at = set_same xs k x y at
-
-set_other : {A : Type 0} (xs : List A) (k m : ℕ) (y : A) → m ≢ k → slice_get (set xs k y) m ≡ slice_get xs m
-set_other [] k m y other = refl
-set_other (z ∷ xs) zero zero y other = absurd (other refl)
-set_other (z ∷ xs) zero (suc m) y other = refl
-set_other (z ∷ xs) (suc k) zero y other = refl
-set_other (z ∷ xs) (suc k) (suc m) y other = set_other xs k m y (λ e. other (ap suc e))
-
-set_length : {A : Type 0} (xs : List A) (k : ℕ) (x : A) → length (set xs k x) ≡ length xs
-set_length [] k x = refl
-set_length (y ∷ xs) zero x = refl
-set_length (y ∷ xs) (suc k) x = ap suc (set_length xs k x)
 
 -- what holds of the new item at its place, and of the old ones elsewhere, holds of each item
 set_all : {A : Type 0} (P : ℕ → A → Type 0) (xs : List A) (k : ℕ) (x y : A) → slice_get xs k ≡ Some x → P k y → ((m : ℕ) (z : A) → m ≢ k → slice_get xs m ≡ Some z → P m z)
@@ -43,12 +27,6 @@ set_all P xs k x y at here there m z is =
     (λ s. subst (λ n. P n z) (sym s.1) (subst (P k) (same_Some y z (sym (set_same xs k x y at) ∙ ap (slice_get (set xs k y)) (sym s.1) ∙ is)) here))
     (λ s. there m z s.1 (sym (set_other xs k m y s.1) ∙ is))
     (tells m k)
-
--- an item that is there is the one at its place
-pub read_at : {A : Type 0} (xs : List A) (i : ℕ) (d : A) → i < length xs → slice_get xs i ≡ Some (get_or xs i d)
-read_at [] i d h = absurd (omega arith)
-read_at (y ∷ xs) zero d h = refl
-read_at (y ∷ xs) (suc i) d h = read_at xs i d (omega arith)
 
 -- a slice that was lent from a list comes back
 pub written : {A : Type 0} (n : ℕ) (xs ys : List A) → length ys ≡ length xs → length xs ≡ n → take n (ys ++ drop (length ys) xs) ≡ ys
@@ -110,7 +88,7 @@ module _ (config : Config) (events : List Event) (clients : List ClientState) (n
     -- where a client is the same, and the queues hold the same
     pub client_same : (place : ℕ) (c d : ClientState) → slice_get clients place ≡ Some c → d ≡ c → ((numbers : ℕ → List ℕ) → Holds numbers queues → Holds numbers after) → IsWhole config events (set clients place d) nodes after
     client_same place c d is still held = record {
-      clients_count = set_length clients place d ∙ whole.clients_count;
+      clients_count = length-set clients place d ∙ whole.clients_count;
       nodes_count = whole.nodes_count;
       queues_count = same ∙ whole.queues_count;
       at = same_client (length config.lanes) (came events) clients nodes queues after held (run config events) place c d whole.at is still;
@@ -120,7 +98,7 @@ module _ (config : Config) (events : List Event) (clients : List ClientState) (n
     pub node_same : (number : ℕ) (n m : Seen) → slice_get nodes number ≡ Some n → m.state ≡ n.state → ((numbers : ℕ → List ℕ) → Holds numbers queues → Holds numbers after) → IsWhole config events clients (set nodes number m) after
     node_same number n m is still held = record {
       clients_count = whole.clients_count;
-      nodes_count = set_length nodes number m ∙ whole.nodes_count;
+      nodes_count = length-set nodes number m ∙ whole.nodes_count;
       queues_count = same ∙ whole.queues_count;
       at = same_node (length config.lanes) (came events) clients nodes queues after held (run config events) number n m whole.at is still;
     }
@@ -129,7 +107,7 @@ module _ (config : Config) (events : List Event) (clients : List ClientState) (n
     pub client_next : (event : Event) (place : ℕ) (c d : ClientState) → slice_get clients place ≡ Some c → ClientNextIn (run config events) (run config (events ++ event ∷ [])) (place + 1) d
         → HoldDue (length config.lanes) (came (events ++ event ∷ [])) (envelopes_at (run config (events ++ event ∷ []))) after → IsWhole config (events ++ event ∷ []) (set clients place d) nodes after
     client_next event place c d is next held = record {
-      clients_count = set_length clients place d ∙ whole.clients_count;
+      clients_count = length-set clients place d ∙ whole.clients_count;
       nodes_count = whole.nodes_count;
       queues_count = same ∙ whole.queues_count;
       at = next_client (length config.lanes) (came events) clients nodes queues (came (events ++ event ∷ [])) after (run config events) (run config (events ++ event ∷ [])) place c d whole.at is next held;
@@ -140,7 +118,7 @@ module _ (config : Config) (events : List Event) (clients : List ClientState) (n
         → HoldDue (length config.lanes) (came (events ++ event ∷ [])) (envelopes_at (run config (events ++ event ∷ []))) after → IsWhole config (events ++ event ∷ []) clients (set nodes number m) after
     node_next event number n m is next held = record {
       clients_count = whole.clients_count;
-      nodes_count = set_length nodes number m ∙ whole.nodes_count;
+      nodes_count = length-set nodes number m ∙ whole.nodes_count;
       queues_count = same ∙ whole.queues_count;
       at = next_node (length config.lanes) (came events) clients nodes queues (came (events ++ event ∷ [])) after (run config events) (run config (events ++ event ∷ [])) number n m whole.at is next held;
     }

@@ -1,11 +1,12 @@
 use Rattle.std.proofs.Common.{◌≡◌, ◌<◌, ◌+◌, ◌-◌, ◌∷◌, [], ◌++◌, ◌∙◌, rules, set, take, drop, length, sym, subst}
+use Rattle.std.proofs.lemmas.Option.{slice_get-get_or}
 use Rattle.fal_story.specs.Fresh.{came}
 use Rattle.fal_story.specs.Run.{run, envelopes_at}
 use Rattle.fal_story.specs.Told.{Told}
 use Rattle.fal_alone.specs.Queues.{Holds, HoldDue}
 use Rattle.fal_alone.specs.Turns.{ClientNextIn}
 use Rattle.fal_alone.specs.Whole.{IsWhole}
-use Rattle.fal_alone.proofs.Wholes.{read_at, written, client_same, client_next}
+use Rattle.fal_alone.proofs.Wholes.{written, client_same, client_next}
 use Rattle.fal_alone.proofs.cluster.Cluster.client_takes.Goals as goal
 
 pub invariant_of-self : goal.invariant_of-self
@@ -19,7 +20,7 @@ invariant_of-self c =
     let events = c.self.inside.book.told.events in
     let place = c.from-place.result - 1 in
     let within : place < length clients = search rules in
-    let at = read_at clients place c.index_mut-client.result.now within in
+    let at = slice_get-get_or clients place c.index_mut-client.result.now within in
     let lent : length queues ≡ c.self.inside.queues.len = search rules in
     let same : length after ≡ length queues = search rules in
     let back = written c.self.inside.queues.len queues after same lent in
@@ -41,7 +42,7 @@ invariant_of-self-2 c =
     let more = events ++ event ∷ [] in
     let place = c.from-place.result - 1 in
     let within : place < length clients = search rules in
-    let at = read_at clients place c.index_mut-client.result.now within in
+    let at = slice_get-get_or clients place c.index_mut-client.result.now within in
     let lent : length queues ≡ c.self.inside.queues.len = search rules in
     let same : length after ≡ length queues = search rules in
     let lane : c.args.lane ≡ place + 1 = search rules in

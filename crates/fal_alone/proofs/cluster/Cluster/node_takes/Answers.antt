@@ -1,4 +1,5 @@
 use Rattle.std.proofs.Common.{◌≡◌, ◌<◌, ◌∷◌, [], ◌++◌, ◌∙◌, rules, set, take, drop, length, sym, ap, subst}
+use Rattle.std.proofs.lemmas.Option.{slice_get-get_or}
 use Rattle.fal_node.specs.Patch.{Seen}
 use Rattle.fal_story.specs.Fresh.{came}
 use Rattle.fal_story.specs.Run.{run, envelopes_at}
@@ -6,7 +7,7 @@ use Rattle.fal_story.specs.Told.{Told}
 use Rattle.fal_alone.specs.Queues.{Holds, HoldDue}
 use Rattle.fal_alone.specs.Turns.{NodeNextIn}
 use Rattle.fal_alone.specs.Whole.{IsWhole}
-use Rattle.fal_alone.proofs.Wholes.{read_at, written, node_same, node_next}
+use Rattle.fal_alone.proofs.Wholes.{written, node_same, node_next}
 use Rattle.fal_alone.proofs.cluster.Cluster.node_takes.Goals as goal
 
 pub invariant_of-self : goal.invariant_of-self
@@ -20,7 +21,7 @@ invariant_of-self c =
     let events = c.self.inside.book.told.events in
     let place = c.from-place.result in
     let within : place < length nodes = search rules in
-    let at = read_at nodes place c.index_mut-node.result.now within in
+    let at = slice_get-get_or nodes place c.index_mut-node.result.now within in
     let lent : length queues ≡ c.self.inside.queues.len = search rules in
     let same : length after ≡ length queues = search rules in
     let back = written c.self.inside.queues.len queues after same lent in
@@ -42,7 +43,7 @@ invariant_of-self-2 c =
     let more = events ++ event ∷ [] in
     let place = c.from-place.result in
     let within : place < length nodes = search rules in
-    let at = read_at nodes place c.index_mut-node.result.now within in
+    let at = slice_get-get_or nodes place c.index_mut-node.result.now within in
     let lent : length queues ≡ c.self.inside.queues.len = search rules in
     let same : length after ≡ length queues = search rules in
     let number : c.args.number ≡ place = search rules in

@@ -1,0 +1,16 @@
+//! A cluster's events, entered by its actors through the lock of a book. It stands apart, since a crate with tests is proved twice.
+#![tactic(auto)]
+
+mod client_post;
+mod heard;
+mod looking;
+mod node_post;
+mod posts;
+mod runs;
+#[cfg(test)]
+mod tests;
+
+pub use client_post::ClientPost;
+pub use node_post::NodePost;
+pub use posts::{Posts, post_all, seats_of, take};
+pub use runs::{enter_all, open};
