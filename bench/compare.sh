@@ -1,7 +1,7 @@
 #!/usr/bin/env bash
 # Instructions, seconds and peak memory of `falcon serial` beside those of a plain program that does the same, on the same scripts.
 #
-# usage: bench/compare.sh [PEER]    (PEER is the folder of that program, built by cargo; ../shared/twin where none is given. It is copied.)
+# usage: bench/compare.sh [PEER]    (PEER is the folder of that program, which has the folder's name and is built by cargo; ../shared/twin where none is given. It is copied.)
 #
 # Each line: the script, its calls, and for falcon and for its peer: instructions as callgrind counts them, seconds, peak KB. The texts
 # have to be the same.
@@ -14,7 +14,7 @@ rm -rf "$out/peer"
 cp -r "$peer" "$out/peer"
 (cd "$out/peer" && cargo build --release --offline --quiet)
 "$top/falcon" serial <"$top/examples/first.falcon" >/dev/null
-peer_program=$(find "$out/peer/target/release" -maxdepth 1 -type f -executable | head -1)
+peer_program=$out/peer/target/release/$(basename "$peer")
 
 # instructions of one run
 count() {
