@@ -12,12 +12,13 @@ sys.path.insert(0, sys.argv[1])
 from oracle import wire
 
 OFFSET, PRIME, BITS = 14695981039346656037, 1099511628211, 2**64
-TABLE = (pathlib.Path(__file__).parent.parent / 'crates/fal_wire_tests/src/table.rt').read_text()
+SOURCES = pathlib.Path(__file__).parent.parent / 'crates/fal_wire_tests/src'
+TABLES = ''.join((SOURCES / name).read_text() for name in ('table.rt', 'table/calls.rt', 'table/operations.rt'))
 
 
 def valid_records():
     """The samples, and the records of the other tables that are read: a row there begins with the answer's form and place."""
-    samples, *others = [text.split() for text in re.findall(r'"\\\n(.*?)"', TABLE, re.S)]
+    samples, *others = [text.split() for text in re.findall(r'"\\\n(.*?)"', TABLES, re.S)]
     return [bytes.fromhex(row) for row in samples + [row[4:] for rows in others for row in rows if row.startswith('0000')]]
 
 

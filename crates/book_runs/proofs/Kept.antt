@@ -1,26 +1,31 @@
 -- What holds of an actor at its seat still holds when the seat has seen more, and when an event of the actor was entered.
-use Rattle.std.proofs.Common.{◌≡◌, ℕ, ◌+◌, Bool, true, false, List, [], ◌∷◌, ◌++◌, length, Option, Some, None, refl, sym, ap, ◌∙◌, subst, append_assoc, cond}
+use Rattle.std.proofs.Common.{◌≡◌, ◌<◌, ℕ, ◌+◌, Bool, true, false, List, [], ◌∷◌, ◌++◌, length, Option, Some, None, refl, sym, ap, ◌∙◌, subst, append_assoc, cond}
 use Rattle.std.specs.Prelude.{slice_get, get_or, IsSome, IsTrue}
 use Rattle.std.specs.List.{All}
 use Rattle.std.proofs.lemmas.List.{length-append}
 use Rattle.std.proofs.lemmas.List.Elements.{All-nil, All-cons, All-append}
 use Rattle.std.proofs.lemmas.Option.{same_Some, get_or_from_slice_get, slice_get_within}
 use Rattle.fal_base.specs.declared.call.Config.{Config}
+use Rattle.fal_base.specs.declared.event.Actor.{Actor}
 use Rattle.fal_base.specs.declared.event.Envelope.{Envelope}
 use Rattle.fal_base.specs.declared.event.Event.{Event}
 use Rattle.fal_base.specs.declared.event.Outputs.{Outputs}
 use Rattle.fal_book.specs.Entries.{entries_of, StartsWith, IsSound}
 use Rattle.fal_book.specs.Sitting.{IsSameSitting, Entered, Looked, NothingEntered, MayEnter}
-use Rattle.fal_story.proofs.Lists.{slice_get_front, slice_get_end}
+use Rattle.fal_story.proofs.Lists.Grown.{slice_get_front, slice_get_end}
 use Rattle.fal_story.specs.declared.inbox.Arrived.{Arrived}
+use Rattle.fal_story.specs.Actors.{actor_of, own_events, number_of, actor_number}
 use Rattle.fal_story.specs.Arriving.{arrives, arrived_next, Arrives}
 use Rattle.fal_story.specs.Clusters.{IsCluster}
 use Rattle.fal_story.specs.Lasting.{step_longer, replay_longer, sent_on}
-use Rattle.fal_story.specs.Pushing.{Machine, MayPush, actor_number, opened_machine, machine_step, given, try_step, machine_after, replay_from, replay, all_sent}
-use Rattle.fal_story.specs.Run.{IsLegal, run}
+use Rattle.fal_story.specs.Machines.{Machine, machine_step, envelope_named}
+use Rattle.fal_story.specs.Pushing.{MayPush, all_sent}
+use Rattle.fal_story.specs.Replay.{try_step, machine_after, replay_from, opened, replay}
+use Rattle.fal_story.specs.Run.{IsLegal, run, machine_in}
 use Rattle.fal_story.specs.World.{World}
-use Rattle.fal_story.proofs.Pushed.{agrees, sound_legal}
-use Rattle.fal_story.proofs.Machines.{machine_at}
+use Rattle.fal_story.proofs.Histories.Numbers.{own_by_number}
+use Rattle.fal_story.proofs.Histories.Pushed.{sound_legal}
+use Rattle.fal_story.proofs.Histories.Replays.{agrees, replay_snoc}
 use Rattle.book_runs.specs.Posts.{Seated, IsKnown, IsSent, IsHeard, IsPost, IsNew}
 
 -- ---- what was heard
@@ -50,9 +55,9 @@ arrived_sent n from before (x ∷ xs) =
 -- ---- more was seen
 
 -- what holds at a seat holds where it has seen more, with no further event of its own
-more_seen : (has : Config → Bool) (n : ℕ) (m : Machine) (s t : Seated) (xs : List Arrived) → IsPost has n m s xs → IsSameSitting s t → StartsWith t.seen s.seen → t.mine ≡ s.mine → IsPost has n m t xs
+more_seen : (has : Config → Bool) (a : Actor) (m : Machine) (s t : Seated) (xs : List Arrived) → IsPost has a m s xs → IsSameSitting s t → StartsWith t.seen s.seen → t.mine ≡ s.mine → IsPost has a m t xs
 unfolding replay
-more_seen has n m s t xs p same starts mine =
+more_seen has a m s t xs p same starts mine =
     let config = p.config in
     let grows = sent_on config s.seen starts.rest in
     let longer : all_sent config t.seen ≡ all_sent config s.seen ++ grows.rest = ap (λ z. all_sent config z) starts.is ∙ grows.is in
@@ -62,29 +67,31 @@ more_seen has n m s t xs p same starts mine =
       cluster = p.cluster;
       there = p.there;
       number = same.1 ∙ p.number;
-      machine = ap (λ z. replay_from config z (Some (opened_machine config n)) t.mine) longer
-          ∙ (ap (λ z. replay_from config (all_sent config s.seen ++ grows.rest) (Some (opened_machine config n)) z) mine
-          ∙ replay_longer config (all_sent config s.seen) grows.rest (Some (opened_machine config n)) s.mine m p.machine);
+      seated = p.seated;
+      machine = ap (λ z. replay_from config z (Some (opened config a)) t.mine) longer
+          ∙ (ap (λ z. replay_from config (all_sent config s.seen ++ grows.rest) (Some (opened config a)) z) mine
+          ∙ replay_longer config (all_sent config s.seen) grows.rest (Some (opened config a)) s.mine m p.machine);
       inbox = subst (λ z. All (IsSent z) xs) (sym longer)
           (all_on (IsSent (all_sent config s.seen)) (IsSent (all_sent config s.seen ++ grows.rest)) xs (λ a at. slice_get_front (all_sent config s.seen) grows.rest a.number a.envelope at) p.inbox);
     }
 
 -- nothing was entered
-pub nothing_entered : (has : Config → Bool) (n : ℕ) (m : Machine) (s t : Seated) (xs : List Arrived) → IsPost has n m s xs → IsSameSitting s t → NothingEntered s t → IsPost has n m t xs
-nothing_entered has n m s t xs p same none = more_seen has n m s t xs p same none.2 none.0
+pub nothing_entered : (has : Config → Bool) (a : Actor) (m : Machine) (s t : Seated) (xs : List Arrived) → IsPost has a m s xs → IsSameSitting s t → NothingEntered s t → IsPost has a m t xs
+nothing_entered has a m s t xs p same none = more_seen has a m s t xs p same none.2 none.0
 
 -- the seat has looked, and its inbox was told what arrived
-pub has_looked : (has : Config → Bool) (n : ℕ) (m : Machine) (s t : Seated) (xs ys : List Arrived) (k from : ℕ) → IsPost has n m s xs → IsSameSitting s t → Looked s t k
-    → ((c : Config) → s.setting ≡ Some c → Arrives c t.seen s.number from xs ys) → IsPost has n m t ys
+pub has_looked : (has : Config → Bool) (a : Actor) (m : Machine) (s t : Seated) (xs ys : List Arrived) (k from : ℕ) → IsPost has a m s xs → IsSameSitting s t → Looked s t k
+    → ((c : Config) → s.setting ≡ Some c → Arrives c t.seen s.number from xs ys) → IsPost has a m t ys
 unfolding more_seen
-has_looked has n m s t xs ys k from p same looked told =
-    let q = more_seen has n m s t xs p same looked.seen looked.mine in
+has_looked has a m s t xs ys k from p same looked told =
+    let q = more_seen has a m s t xs p same looked.seen looked.mine in
     record {
       config = p.config;
       setting = q.setting;
       cluster = q.cluster;
       there = q.there;
       number = q.number;
+      seated = q.seated;
       machine = q.machine;
       inbox = subst (λ zs. All (IsSent (all_sent p.config t.seen)) zs) (sym (told p.config p.setting))
           (All-append (IsSent (all_sent p.config t.seen)) xs (arrived_next 0 s.number from (all_sent p.config t.seen)) q.inbox (arrived_sent s.number from [] (all_sent p.config t.seen)));
@@ -92,88 +99,89 @@ has_looked has n m s t xs ys k from p same looked told =
 
 -- ---- an event of its own
 
-replay_snoc : (config : Config) (sent : List Envelope) (m : Option Machine) (es : List Event) (e : Event)
-    → replay_from config sent m (es ++ e ∷ []) ≡ machine_after (try_step config sent (replay_from config sent m es) e)
-replay_snoc config sent m [] e = refl
-replay_snoc config sent m (x ∷ es) e = replay_snoc config sent (machine_after (try_step config sent m x)) es e
+-- the events of a seat's actor are the seat's own
+own_mine : (has : Config → Bool) (a : Actor) (m : Machine) (s : Seated) (xs : List Arrived) → IsPost has a m s xs → IsKnown s → own_events a s.seen ≡ s.mine
+own_mine has a m s xs p known = own_by_number a s.seen p.seated ∙ (ap (λ n. entries_of actor_number n s.seen) (sym p.number) ∙ sym known.mine)
 
 -- what the machine makes of an event at its seat may be entered
-pub may_enter : (has : Config → Bool) (n : ℕ) (m after : Machine) (s : Seated) (xs : List Arrived) (e : Event) (o : Outputs) → (p : IsPost has n m s xs) → IsKnown s → actor_number e ≡ n
-    → machine_step p.config m e (given (all_sent p.config s.seen) e) ≡ Some (after, o) → MayEnter MayPush s.setting s.seen e o
-may_enter has n m after s xs e o p known own makes =
+pub may_enter : (has : Config → Bool) (a : Actor) (m after : Machine) (s : Seated) (xs : List Arrived) (e : Event) (o : Outputs) → (p : IsPost has a m s xs) → IsKnown s → actor_of e ≡ a
+    → machine_step p.config m e (envelope_named (all_sent p.config s.seen) e) ≡ Some (after, o) → MayEnter MayPush s.setting s.seen e o
+may_enter has a m after s xs e o p known own makes =
     let config = p.config in
     let sent = all_sent config s.seen in
-    let mine : entries_of actor_number (actor_number e) s.seen ≡ s.mine = ap (λ k. entries_of actor_number k s.seen) (own ∙ sym p.number) ∙ sym known.mine in
-    let at : replay config sent (actor_number e) (entries_of actor_number (actor_number e) s.seen) ≡ Some m = ap (λ z. replay config sent (actor_number e) z) mine ∙ (ap (λ k. replay config sent k s.mine) own ∙ p.machine) in
+    let mine : own_events a s.seen ≡ s.mine = own_mine has a m s xs p known in
+    let at : replay config sent (actor_of e) (own_events (actor_of e) s.seen) ≡ Some m = ap (λ b. replay config sent b (own_events b s.seen)) own ∙ (ap (λ z. replay config sent a z) mine ∙ p.machine) in
     subst (λ z. MayEnter MayPush z s.seen e o) (sym p.setting) (record { cluster = p.cluster; after = after; makes = ap (λ z. try_step config sent z e) at ∙ makes })
 
 -- and once it is entered the actor after it is at the seat
-pub has_entered : (has : Config → Bool) (n : ℕ) (m after : Machine) (s t : Seated) (xs : List Arrived) (e : Event) (o : Outputs) (k : ℕ) → (p : IsPost has n m s xs) → IsSameSitting s t → Entered s t e k
-    → machine_step p.config m e (given (all_sent p.config s.seen) e) ≡ Some (after, o) → IsPost has n after t xs
+pub has_entered : (has : Config → Bool) (a : Actor) (m after : Machine) (s t : Seated) (xs : List Arrived) (e : Event) (o : Outputs) (k : ℕ) → (p : IsPost has a m s xs) → IsSameSitting s t → Entered s t e k
+    → machine_step p.config m e (envelope_named (all_sent p.config s.seen) e) ≡ Some (after, o) → IsPost has a after t xs
 unfolding replay more_seen
-has_entered has n m after s t xs e o k p same entered makes =
+has_entered has a m after s t xs e o k p same entered makes =
     let config = p.config in
     let sent = all_sent config s.seen in
     let seen : t.seen ≡ s.seen ++ (entered.between ++ e ∷ []) = entered.seen ∙ append_assoc s.seen entered.between (e ∷ []) in
     let middle : Seated = record t { mine = s.mine } in
-    let q : IsPost has n m middle xs = more_seen has n m s middle xs p same (record { rest = entered.between ++ e ∷ []; is = seen }) refl in
+    let q : IsPost has a m middle xs = more_seen has a m s middle xs p same (record { rest = entered.between ++ e ∷ []; is = seen }) refl in
     let grows = sent_on config s.seen (entered.between ++ e ∷ []) in
     let longer : all_sent config t.seen ≡ sent ++ grows.rest = ap (λ z. all_sent config z) seen ∙ grows.is in
-    let step : machine_step config m e (given (all_sent config t.seen) e) ≡ Some (after, o)
-    = subst (λ z. machine_step config m e (given z e) ≡ Some (after, o)) (sym longer) (step_longer config sent grows.rest m e (after, o) makes) in
-    let opened : Option Machine = Some (opened_machine config n) in
+    let step : machine_step config m e (envelope_named (all_sent config t.seen) e) ≡ Some (after, o)
+    = subst (λ z. machine_step config m e (envelope_named z e) ≡ Some (after, o)) (sym longer) (step_longer config sent grows.rest m e (after, o) makes) in
+    let first : Option Machine = Some (opened config a) in
     record {
       config = config;
       setting = q.setting;
       cluster = q.cluster;
       there = q.there;
       number = q.number;
-      machine = ap (λ z. replay_from config (all_sent config t.seen) opened z) entered.mine
-          ∙ (replay_snoc config (all_sent config t.seen) opened s.mine e
+      seated = q.seated;
+      machine = ap (λ z. replay_from config (all_sent config t.seen) first z) entered.mine
+          ∙ (replay_snoc config (all_sent config t.seen) first s.mine e
           ∙ (ap (λ z. machine_after (try_step config (all_sent config t.seen) z e)) q.machine ∙ ap machine_after step));
       inbox = q.inbox;
     }
 
 -- ---- the run that a seat has seen
 
--- a seat has seen a legal run, whose world has the machine at its number
-pub record IsRun (n : ℕ) (m : Machine) (config : Config) (es : List Event) : Type 0 where
+-- a seat has seen a legal run, whose world has the machine of its actor
+pub record IsRun (a : Actor) (m : Machine) (config : Config) (es : List Event) : Type 0 where
   pub legal : IsLegal config es
   pub world : World
   pub at : run config es ≡ Some world
   pub envelopes : all_sent config es ≡ world.envelopes
-  pub machine : m ≡ machine_at world n
+  pub machine : m ≡ machine_in world a
 
 some_world : (o : Option World) → IsSome o → (w : World) × (o ≡ Some w)
 some_world None h = absurd (cc)
 some_world (Some w) h = (w, refl)
 
-pub seen_run : (has : Config → Bool) (n : ℕ) (m : Machine) (s : Seated) (xs : List Arrived) → (p : IsPost has n m s xs) → IsKnown s → IsRun n m p.config s.seen
-seen_run has n m s xs p known =
+pub seen_run : (has : Config → Bool) (a : Actor) (m : Machine) (s : Seated) (xs : List Arrived) → (p : IsPost has a m s xs) → IsKnown s → IsRun a m p.config s.seen
+seen_run has a m s xs p known =
     let config = p.config in
     let sound = known.sound in
     let same : sound.0 ≡ config = same_Some sound.0 config (sym sound.1 ∙ p.setting) in
     let legal : IsLegal config s.seen = sound_legal config s.seen p.cluster (subst (λ c. IsSound MayPush c s.seen) same sound.2) in
     let found = some_world (run config s.seen) legal.enabled in
-    let a = agrees config s.seen found.0 p.cluster found.1 in
-    let mine : entries_of actor_number n s.seen ≡ s.mine = ap (λ k. entries_of actor_number k s.seen) (sym p.number) ∙ sym known.mine in
+    let agreed = agrees config s.seen found.0 found.1 in
     record {
       legal = legal;
       world = found.0;
       at = found.1;
-      envelopes = a.envelopes;
-      machine = same_Some m (machine_at found.0 n) (sym p.machine ∙ (ap (λ z. replay config z n s.mine) a.envelopes ∙ (ap (λ z. replay config found.0.envelopes n z) (sym mine) ∙ a.machines n)));
+      envelopes = agreed.envelopes;
+      machine = same_Some m (machine_in found.0 a)
+          (sym p.machine ∙ (ap (λ z. replay config z a s.mine) agreed.envelopes ∙ (ap (λ z. replay config found.0.envelopes a z) (sym (own_mine has a m s xs p known)) ∙ agreed.machines a)));
     }
 
 -- an actor before its first event is at a new seat
-pub new_post : (has : Config → Bool) (n : ℕ) (config : Config) (s : Seated) → IsCluster config → IsTrue (has config) → IsNew config n s → IsPost has n (opened_machine config n) s []
+pub new_post : (has : Config → Bool) (a : Actor) (config : Config) (s : Seated) → IsCluster config → IsTrue (has config) → number_of a < 255 → IsNew config (number_of a) s → IsPost has a (opened config a) s []
 unfolding replay
-new_post has n config s cluster there new = record {
+new_post has a config s cluster there seated new = record {
   config = config;
   setting = new.setting;
   cluster = cluster;
   there = there;
   number = new.number;
-  machine = ap (λ z. replay_from config (all_sent config s.seen) (Some (opened_machine config n)) z) new.mine;
+  seated = seated;
+  machine = ap (λ z. replay_from config (all_sent config s.seen) (Some (opened config a)) z) new.mine;
   inbox = All-nil (IsSent (all_sent config s.seen));
 }

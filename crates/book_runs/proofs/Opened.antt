@@ -7,7 +7,7 @@ use Rattle.fal_base.specs.declared.call.Config.{Config}
 use Rattle.fal_base.specs.declared.event.Event.{Event}
 use Rattle.fal_book.specs.Entries.{entries_of}
 use Rattle.fal_book.specs.Sitting.{newcomer}
-use Rattle.fal_story.specs.Pushing.{actor_number}
+use Rattle.fal_story.specs.Actors.{actor_number}
 use Rattle.book_runs.specs.Posts.{Seated, IsNewAt}
 
 -- what holds of each item holds of the first

@@ -1,8 +1,10 @@
 -- An actor at its seat: it is the replay of its own events, and what it heard was sent.
-use Rattle.std.specs.Prelude.{◌≡◌, ℕ, Bool, IsTrue, List, [], Some, slice_get}
+use Rattle.std.specs.Prelude.{◌≡◌, ℕ, ◌<◌, Bool, IsTrue, List, [], Some, slice_get}
 use Rattle.std.specs.List.{All}
 use Rattle.atomic_table.specs.Seated.{TableId}
 use Rattle.fal_base.specs.declared.call.Config.{Config}
+use Rattle.fal_base.specs.declared.event.Actor.{Actor}
+use Rattle.fal_base.specs.declared.event.Actor.TheVariants.{Client, Node}
 use Rattle.fal_base.specs.declared.event.Envelope.{Envelope}
 use Rattle.fal_base.specs.declared.event.Event.{Event}
 use Rattle.fal_base.specs.declared.event.Event.TheVariants as event
@@ -15,8 +17,11 @@ use Rattle.fal_node.specs.declared.event.NodeEvent.{NodeEvent}
 use Rattle.fal_node.specs.declared.event.NodeEvent.TheVariants as node
 use Rattle.fal_node.specs.State.{NodeState}
 use Rattle.fal_story.specs.declared.inbox.Arrived.{Arrived}
+use Rattle.fal_story.specs.Actors.{number_of, actor_number}
 use Rattle.fal_story.specs.Clusters.{IsCluster, is_lane, is_node}
-use Rattle.fal_story.specs.Pushing.{Machine, ClientMachine, NodeMachine, MayPush, actor_number, client_number, node_number, all_sent, replay}
+use Rattle.fal_story.specs.Machines.{Machine, ClientMachine, NodeMachine}
+use Rattle.fal_story.specs.Pushing.{MayPush, all_sent}
+use Rattle.fal_story.specs.Replay.{replay}
 
 -- a seat at the book of a cluster
 abbrev pub Seated : Type 0
@@ -34,23 +39,24 @@ IsSent sent a = slice_get sent a.number ≡ Some a.envelope
 abbrev pub IsHeard : List Arrived → ℕ → Envelope → Type 0
 IsHeard xs number envelope = (sent : List Envelope) → All (IsSent sent) xs → slice_get sent number ≡ Some envelope
 
--- the seat is that of the actor with this number in a cluster that has it; the machine is the replay of the actor's events, and what is in the inbox was sent
-pub record IsPost (has : Config → Bool) (n : ℕ) (m : Machine) (s : Seated) (xs : List Arrived) : Type 0 where
+-- the seat is that of this actor in a cluster that has it; the machine is the replay of the actor's events, and what is in the inbox was sent
+pub record IsPost (has : Config → Bool) (a : Actor) (m : Machine) (s : Seated) (xs : List Arrived) : Type 0 where
   pub config : Config
   pub setting : s.setting ≡ Some config
   pub cluster : IsCluster config
   pub there : IsTrue (has config)
-  pub number : s.number ≡ n
-  pub machine : replay config (all_sent config s.seen) n s.mine ≡ Some m
+  pub number : s.number ≡ number_of a
+  pub seated : number_of a < 255
+  pub machine : replay config (all_sent config s.seen) a s.mine ≡ Some m
   pub inbox : All (IsSent (all_sent config s.seen)) xs
 
 -- the client of this lane, at its seat
 abbrev pub IsClientPost : ℕ → ClientState → Seated → List Arrived → Type 0
-IsClientPost lane c s xs = IsPost (λ config. is_lane config lane) (client_number lane) (ClientMachine c) s xs
+IsClientPost lane c s xs = IsPost (λ config. is_lane config lane) (Client lane) (ClientMachine c) s xs
 
 -- the node of this number, at its seat
 abbrev pub IsNodePost : ℕ → NodeState → Seated → List Arrived → Type 0
-IsNodePost number n s xs = IsPost (λ config. is_node config number) (node_number number) (NodeMachine n) s xs
+IsNodePost number n s xs = IsPost (λ config. is_node config number) (Node number) (NodeMachine n) s xs
 
 -- the event is this one of the lane's client, which takes what was sent
 abbrev pub IsOwnOfClientIn : List Envelope → ℕ → Event → ClientEvent → Type 0

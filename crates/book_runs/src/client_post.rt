@@ -1,7 +1,7 @@
 //! A client at its seat.
 ghost use Rattle.std.specs.Prelude.{◌≡◌, IfOk, IsTrue};
 ghost use Rattle.fal_story.specs.Clusters.{IsCluster, calls_of_lane, is_lane};
-ghost use Rattle.fal_story.specs.Pushing.{client_number};
+ghost use Rattle.fal_story.specs.Actors.{client_number};
 ghost use Rattle.fal_book.specs.Sitting.{IsSameSitting};
 ghost use Rattle.book_runs.specs.Posts.{IsClientPost, IsOwnOfClient, IsNew};
 

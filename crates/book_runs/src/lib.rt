@@ -1,4 +1,4 @@
-//! A cluster's events, entered by its actors through the lock of a book. It stands apart, since a crate with tests is proved twice.
+//! A cluster's events, entered by its actors through the lock of a book. It is a trial of the lock; `fal_scenarios` tests it.
 #![tactic(auto)]
 
 mod client_post;
@@ -7,8 +7,6 @@ mod looking;
 mod node_post;
 mod posts;
 mod runs;
-#[cfg(test)]
-mod tests;
 
 pub use client_post::ClientPost;
 pub use node_post::NodePost;

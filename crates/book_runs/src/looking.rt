@@ -1,8 +1,9 @@
 //! An actor at its seat looks at the book.
-ghost use Rattle.std.specs.Prelude.{◌≡◌, ℕ, Bool};
+ghost use Rattle.std.specs.Prelude.{◌≡◌, Bool};
 ghost use Rattle.fal_base.specs.declared.call.Config.{Config as ConfigSeen};
+ghost use Rattle.fal_base.specs.declared.event.Actor.{Actor as ActorSeen};
 ghost use Rattle.fal_book.specs.Sitting.{IsSameSitting};
-ghost use Rattle.fal_story.specs.Pushing.{Machine};
+ghost use Rattle.fal_story.specs.Machines.{Machine};
 ghost use Rattle.book_runs.specs.Posts.{IsPost};
 
 use fal_base::OutOfMemory;
@@ -19,7 +20,7 @@ pub fn look_on<R: Wait>(
 ) -> Result<u64, OutOfMemory>
     requires { seat.old.lock ≡ lock.now.table }
     ensures same { IsSameSitting seat.old seat.new }
-    ensures kept { (has : ConfigSeen → Bool) (n : ℕ) (m : Machine) → IsPost has n m seat.old inbox.old → IsPost has n m seat.new inbox.new }
+    ensures kept { (has : ConfigSeen → Bool) (a : ActorSeen) (m : Machine) → IsPost has a m seat.old inbox.old → IsPost has a m seat.new inbox.new }
 {
     match lock.look(rt, seat, inbox) {
         Ok(count) => Ok(count),

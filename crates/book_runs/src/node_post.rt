@@ -1,7 +1,7 @@
 //! A node at its seat.
 ghost use Rattle.std.specs.Prelude.{◌≡◌, IfOk, IsTrue};
 ghost use Rattle.fal_story.specs.Clusters.{IsCluster, is_node};
-ghost use Rattle.fal_story.specs.Pushing.{node_number};
+ghost use Rattle.fal_story.specs.Actors.{node_number};
 ghost use Rattle.fal_book.specs.Sitting.{IsSameSitting};
 ghost use Rattle.book_runs.specs.Posts.{IsNodePost, IsOwnOfNode, IsNew};
 

@@ -4,7 +4,7 @@ use Rattle.std.specs.Prelude.{slice_get, take}
 use Rattle.std.proofs.lemmas.List.{append_assoc, append-nil, take-append-le}
 use Rattle.fal_base.specs.declared.call.Config.{Config}
 use Rattle.fal_base.specs.declared.event.Event.{Event}
-use Rattle.fal_story.proofs.Lists.{slice_get_snoc, slice_get_below}
+use Rattle.fal_story.proofs.Lists.Grown.{slice_get_snoc, slice_get_below}
 use Rattle.fal_story.specs.Fresh.{first_reply}
 use Rattle.fal_story.specs.Told.{Told}
 use Rattle.fal_alone.specs.Extends.{Extends, DrainsTo}

@@ -11,14 +11,15 @@ use Rattle.fal_base.specs.declared.event.Event.{Event}
 use Rattle.fal_base.specs.declared.event.Event.TheVariants as event
 use Rattle.fal_batch.specs.Plan.{is_idle}
 use Rattle.fal_client.specs.declared.event.ClientEvent.TheVariants as client
-use Rattle.fal_client.specs.State.{ClientState, ClientMove}
-use Rattle.fal_client.specs.Step.{client_move, got, is_lane as is_for}
+use Rattle.fal_client.specs.State.{ClientState, Work as ClientWork}
+use Rattle.fal_client.specs.Step.{client_step, got, is_lane as is_for}
 use Rattle.fal_node.specs.declared.batch.Batch.{Batch}
-use Rattle.fal_node.specs.declared.event.NodeEvent.{NodeEvent}
-use Rattle.fal_node.specs.declared.event.NodeEvent.TheVariants as own
+use Rattle.fal_node.specs.declared.event.NodeEvent.TheVariants as node
+use Rattle.fal_node.specs.declared.event.OwnEvent.{OwnEvent}
+use Rattle.fal_node.specs.declared.event.OwnEvent.TheVariants as own
 use Rattle.fal_node.specs.declared.item.Item.{Item}
 use Rattle.fal_node.specs.Deliver.{delivered}
-use Rattle.fal_node.specs.Due.{dues, due_gather, due_execs, due_releases, due_serves}
+use Rattle.fal_node.specs.Due.{event_of as own_event, dues, due_gather, due_execs, due_releases, due_serves}
 use Rattle.fal_node.specs.Exec.{execute, executed}
 use Rattle.fal_node.specs.Gather.{plan_at, gathered}
 use Rattle.fal_node.specs.Letters.{Work, begun}
@@ -27,15 +28,17 @@ use Rattle.fal_node.specs.State.{NodeState, released}
 use Rattle.fal_node.specs.Step.{node_step, is_node as is_for_node, only_if, release}
 use Rattle.fal_alone.proofs.ItemNumbers.{HaveItems, legal_items}
 use Rattle.fal_alone.specs.Turns.{deed_in}
-use Rattle.fal_story.proofs.Dues.{IsDue, due_is}
-use Rattle.fal_story.proofs.Each.{Each, Apart, each_weaker, each_join}
-use Rattle.fal_story.proofs.Follow.{IsFollowed}
-use Rattle.fal_story.proofs.FollowRuns.{legal_lives}
-use Rattle.fal_story.proofs.LegalRuns.{IsKept}
-use Rattle.fal_story.proofs.Members.{in_at, at_in, each_in, each_by, each_map, each_filter, find_apart}
+use Rattle.fal_story.proofs.Drain.Dues.{IsDue, due_is}
+use Rattle.fal_story.proofs.Lists.Each.{Each, Apart, each_weaker, each_join}
+use Rattle.fal_story.proofs.Drain.Follow.{IsFollowed}
+use Rattle.fal_story.proofs.Drain.FollowRuns.{legal_lives}
+use Rattle.fal_story.proofs.Drain.Unheard.{coord_unheard}
+use Rattle.fal_story.proofs.Events.LegalRuns.{IsKept}
+use Rattle.fal_story.proofs.Lists.Members.{in_at, at_in, each_in, each_by, each_map, each_filter, find_apart}
 use Rattle.fal_story.specs.Clusters.{is_lane, is_node}
-use Rattle.fal_story.specs.Fresh.{is_actor, due, event_of, fresh_gets, fresh_at_node, fresh_replies, fresh_replies_at, first_reply, came}
-use Rattle.fal_story.specs.Run.{only_where, client_hears, node_hears, client_deed, node_deed, deed, run, IsLegal}
+use Rattle.fal_story.specs.Fresh.{is_actor, due, event_of, fresh_gets, fresh_at_node, fresh_at_coord, fresh_replies, fresh_replies_at, first_reply, came}
+use Rattle.fal_story.specs.Machines.{only_where, client_hears, node_hears}
+use Rattle.fal_story.specs.Run.{client_deed, node_deed, deed, run, IsLegal}
 use Rattle.fal_story.specs.World.{World}
 
 -- ---- lists
@@ -67,29 +70,25 @@ due_stands a came xs number d = subst (λ i. slice_get xs i ≡ Some d.envelope)
     same : (at number : ℕ) → number ≡ at + 0 → at ≡ number
     same at number is = omega arith
 
-client_takes : (c : ClientState) (lane : ℕ) (x : Envelope) → c.lane ≡ lane → x.to ≡ Client lane → IsSome (client_move c (client.Get x))
-unfolding client_move is_for got
+client_takes : (c : ClientState) (lane : ℕ) (x : Envelope) → c.lane ≡ lane → x.to ≡ Client lane → IsSome (client_step c (client.Get x))
+unfolding client_step is_for got
 client_takes c lane x is to = subst (λ b. IsSome (got c x b)) (sym here) refl
   where
     here : is_for c.lane x.to ≡ true
     here = ap (is_for c.lane) to ∙ eq-eqb lane c.lane (sym is)
 
-node_takes : (node : NodeState) (number : ℕ) (x : Envelope) → node.number ≡ number → x.to ≡ Node number → IsSome (node_step node (own.Deliver x))
+node_takes : (s : NodeState) (number : ℕ) (x : Envelope) → s.number ≡ number → x.to ≡ Node number → IsSome (node_step s (node.Deliver x))
 unfolding node_step
-node_takes node number x is to = subst (λ b. IsSome (only_if b (delivered node x))) (sym here) refl
+node_takes s number x is to = subst (λ b. IsSome (only_if b (delivered s x))) (sym here) refl
   where
-    here : is_for_node x.to node.number ≡ true
-    here = ap (λ a. is_for_node a node.number) to ∙ eq-eqb number node.number (sym is)
+    here : is_for_node x.to s.number ≡ true
+    here = ap (λ a. is_for_node a s.number) to ∙ eq-eqb number s.number (sym is)
 
 -- ---- a node's own events
 
--- the event is the node's own, and enabled
-abbrev IsOwn : NodeState → NodeEvent → Type 0
-IsOwn node (own.Deliver x) = ⊥
-IsOwn node own.Gather = IsSome (node_step node own.Gather)
-IsOwn node (own.Exec number) = IsSome (node_step node (own.Exec number))
-IsOwn node (own.Release number) = IsSome (node_step node (own.Release number))
-IsOwn node (own.Serve number) = IsSome (node_step node (own.Serve number))
+-- the event is enabled
+abbrev IsOwn : NodeState → OwnEvent → Type 0
+IsOwn node e = IsSome (node_step node (own_event e))
 
 gather_own : (node : NodeState) → Each (IsOwn node) (due_gather node)
 unfolding node_step
@@ -141,7 +140,7 @@ dues_own node batches items =
 abbrev IsEnabled : Config → World → Event → Type 0
 IsEnabled config w e = IsSome (deed config w e)
 
-client_some : (config : Config) (w : World) (l : ℕ) (o : Option ClientMove) → IsTrue (is_lane config l) → IsSome o → IsSome (client_deed w l (only_where (is_lane config l) o))
+client_some : (config : Config) (w : World) (l : ℕ) (o : Option ClientWork) → IsTrue (is_lane config l) → IsSome o → IsSome (client_deed w l (only_where (is_lane config l) o))
 client_some config w l None there some = absurd (cc)
 client_some config w l (Some m) there some = subst (λ b. IsSome (client_deed w l (only_where b (Some m)))) (sym there) refl
 
@@ -149,13 +148,12 @@ node_some : (config : Config) (w : World) (n : ℕ) (o : Option Work) → IsTrue
 node_some config w n None there some = absurd (cc)
 node_some config w n (Some k) there some = subst (λ b. IsSome (node_deed w n (only_where b (Some k)))) (sym there) refl
 
-own_enabled : (config : Config) (w : World) (n : ℕ) (e : NodeEvent) → IsTrue (is_node config n) → IsOwn (w.nodes n) e → IsEnabled config w (event_of n e)
+own_enabled : (config : Config) (w : World) (n : ℕ) (e : OwnEvent) → IsTrue (is_node config n) → IsOwn (w.nodes n) e → IsEnabled config w (event_of n e)
 unfolding deed
-own_enabled config w n (own.Deliver x) there is = absurd is
-own_enabled config w n own.Gather there is = node_some config w n (node_step (w.nodes n) own.Gather) there is
-own_enabled config w n (own.Exec number) there is = node_some config w n (node_step (w.nodes n) (own.Exec number)) there is
-own_enabled config w n (own.Release number) there is = node_some config w n (node_step (w.nodes n) (own.Release number)) there is
-own_enabled config w n (own.Serve number) there is = node_some config w n (node_step (w.nodes n) (own.Serve number)) there is
+own_enabled config w n own.Gather there is = node_some config w n (node_step (w.nodes n) node.Gather) there is
+own_enabled config w n (own.Exec number) there is = node_some config w n (node_step (w.nodes n) (node.Exec number)) there is
+own_enabled config w n (own.Release number) there is = node_some config w n (node_step (w.nodes n) (node.Release number)) there is
+own_enabled config w n (own.Serve number) there is = node_some config w n (node_step (w.nodes n) (node.Serve number)) there is
 
 module _ (config : Config) (w : World) (came : ℕ → Bool) (k : IsKept config w) where
   get_enabled : (l number : ℕ) → IsTrue (is_lane config l) → IsDue (Client l) came 0 w.envelopes number → IsEnabled config w (event.Get l number)
@@ -182,12 +180,16 @@ module _ (config : Config) (w : World) (came : ℕ → Bool) (k : IsKept config 
       (each_due (Node n) came w.envelopes (λ envelope. IsEnabled config w (event.Deliver n envelope)) (λ number d. deliver_enabled n number there d)))
       (each_map (IsEnabled config w) (λ e. event_of n e) (dues (w.nodes n)) (each_weaker (IsOwn (w.nodes n)) _ (dues (w.nodes n)) (λ e is. own_enabled config w n e there is) owned))
 
-  replies_enabled : IsFollowed w came → HaveItems w → Each (IsEnabled config w) (fresh_replies config w came)
-  replies_enabled f items =
-      each_join (IsEnabled config w) (flat_map (λ lane. fresh_gets w came lane) (range_with_len 1 (length config.lanes))) (flat_map (λ number. fresh_at_node w came number) (range_with_len 0 config.nodes))
+  replies_enabled : IsFollowed w came → HaveItems w → fresh_at_coord w came ≡ [] → Each (IsEnabled config w) (fresh_replies config w came)
+  replies_enabled f items unheard =
+      let of_lanes = flat_map (λ lane. fresh_gets w came lane) (range_with_len 1 (length config.lanes)) in
+      let of_nodes = flat_map (λ number. fresh_at_node w came number) (range_with_len 0 config.nodes) in
+      each_join (IsEnabled config w) (of_lanes ++ of_nodes) (fresh_at_coord w came)
+      (each_join (IsEnabled config w) of_lanes of_nodes
       (each_range (IsEnabled config w) (λ lane. fresh_gets w came lane) 1 (length config.lanes) (λ l low high. let there : IsTrue (is_lane config l) = grind (arith, nat_tests) in lane_enabled l there))
       (each_range (IsEnabled config w) (λ number. fresh_at_node w came number) 0 config.nodes
-      (λ n low high. let there : IsTrue (is_node config n) = grind (arith, nat_tests) in node_enabled n there (dues_own (w.nodes n) (f.batches n).apart (items n).apart)))
+      (λ n low high. let there : IsTrue (is_node config n) = grind (arith, nat_tests) in node_enabled n there (dues_own (w.nodes n) (f.batches n).apart (items n).apart))))
+      (subst (Each (IsEnabled config w)) (sym unheard) tt)
 
 -- the first fresh event after a legal run, other than a Send, is enabled
 pub first_enabled : (config : Config) (events : List Event) (e : Event) → IsLegal config events → first_reply config events ≡ Some e → IsSome (deed_in config (run config events) e)
@@ -197,5 +199,5 @@ first_enabled config events e legal first =
       | Some w ↦ λ at z.
           let live = legal_lives config events w legal at in
           each_in (IsEnabled config w) (fresh_replies config w (came events)) e
-          (replies_enabled config w (came events) live.0 live.1.followed (legal_items config events w legal at)) (in_at (fresh_replies config w (came events)) 0 e z)
+          (replies_enabled config w (came events) live.0 live.1.followed (legal_items config events w legal at) (coord_unheard config events w legal at)) (in_at (fresh_replies config w (came events)) 0 e z)
     ] refl first

@@ -3,20 +3,20 @@ use Rattle.std.proofs.Common.{◌≡◌, ℕ, ◌-◌, ◌≤◌, Bool, true, fa
 use Rattle.std.specs.Prelude.{slice_get, IsSome}
 use Rattle.std.proofs.lemmas.List.{take-append-le}
 use Rattle.std.proofs.Math.Seq.{take-length}
+use Rattle.fal_base.specs.declared.event.Actor.{Actor}
 use Rattle.fal_base.specs.declared.event.Envelope.{Envelope}
 use Rattle.fal_base.specs.declared.event.Event.{Event}
 use Rattle.fal_base.specs.declared.event.Event.TheVariants as event
-use Rattle.fal_client.specs.State.{ClientState}
-use Rattle.fal_node.specs.State.{NodeState}
-use Rattle.fal_story.proofs.Dues.{Rises, came_snoc, due_rises}
-use Rattle.fal_story.proofs.Lists.{put_other, slice_get_below}
-use Rattle.fal_story.proofs.MovingRuns.{legal_moves}
+use Rattle.fal_story.proofs.Drain.Dues.{Rises, came_snoc, due_rises}
+use Rattle.fal_story.proofs.Lists.Grown.{put_other, slice_get_below}
+use Rattle.fal_story.proofs.Drain.MovingRuns.{legal_moves}
 use Rattle.fal_story.specs.Fresh.{came_with, came}
+use Rattle.fal_story.specs.Machines.{Machine}
 use Rattle.fal_story.specs.Run.{IsLegal, run, envelopes_at}
 use Rattle.fal_story.specs.Told.{Told}
 use Rattle.fal_story.specs.World.{World}
 use Rattle.fal_alone.specs.Queues.{QueueSeen, actor_at, HoldDue, HaveRoom, TakesItsOwn}
-use Rattle.fal_alone.specs.Turns.{world_of, envelopes_of, with_event, sent_by, ClientNextIn, NodeNextIn}
+use Rattle.fal_alone.specs.Turns.{world_of, envelopes_of, with_event, sent_by, NextIn}
 
 -- ---- the envelopes before an event are the front of those after it
 
@@ -34,15 +34,10 @@ grown before behind sent is = record {
   below = let l = ap length is ∙ length-append before sent in omega arith;
 }
 
-client_grows : (o p : Option World) (lane : ℕ) (c : ClientState) → ClientNextIn o p lane c → BeginsWith (envelopes_at o) (envelopes_at p)
-client_grows None p lane c next = absurd next
-client_grows (Some w) None lane c next = absurd next
-client_grows (Some w) (Some u) lane c next = grown w.envelopes u.envelopes next.sent next.envelopes
-
-node_grows : (o p : Option World) (number : ℕ) (n : NodeState) → NodeNextIn o p number n → BeginsWith (envelopes_at o) (envelopes_at p)
-node_grows None p number n next = absurd next
-node_grows (Some w) None number n next = absurd next
-node_grows (Some w) (Some u) number n next = grown w.envelopes u.envelopes next.sent next.envelopes
+grows : (o p : Option World) (actor : Actor) (m : Machine) → NextIn o p actor m → BeginsWith (envelopes_at o) (envelopes_at p)
+grows None p actor m next = absurd next
+grows (Some w) None actor m next = absurd next
+grows (Some w) (Some u) actor m next = grown w.envelopes u.envelopes next.sent next.envelopes
 
 -- ---- no envelope came that was not sent
 
@@ -76,13 +71,9 @@ pub record IsAfter (told book : Told) (e : Event) (from : ℕ) : Type 0 where
   pub count : from ≡ length (envelopes_of told)
   pub begins : BeginsWith (envelopes_of told) (envelopes_of (with_event told e))
 
--- so it is after a client's event
-pub after_client : (told book : Told) (e : Event) (from lane : ℕ) (c : ClientState) → book ≡ with_event told e → from ≡ length (envelopes_of told) → ClientNextIn (world_of told) (world_of (with_event told e)) lane c → IsAfter told book e from
-after_client told book e from lane c is count next = record { is = is; count = count; begins = client_grows (world_of told) (world_of (with_event told e)) lane c next }
-
--- and after a node's
-pub after_node : (told book : Told) (e : Event) (from number : ℕ) (n : NodeState) → book ≡ with_event told e → from ≡ length (envelopes_of told) → NodeNextIn (world_of told) (world_of (with_event told e)) number n → IsAfter told book e from
-after_node told book e from number n is count next = record { is = is; count = count; begins = node_grows (world_of told) (world_of (with_event told e)) number n next }
+-- so it is after an event of an actor
+pub after_event : (told book : Told) (e : Event) (from : ℕ) (actor : Actor) (m : Machine) → book ≡ with_event told e → from ≡ length (envelopes_of told) → NextIn (world_of told) (world_of (with_event told e)) actor m → IsAfter told book e from
+after_event told book e from actor m is count next = record { is = is; count = count; begins = grows (world_of told) (world_of (with_event told e)) actor m next }
 
 -- what came is settled, and the queues hold what is due of the front
 pub front_held : (lanes from : ℕ) (told book : Told) (e : Event) (queues : List QueueSeen) → IsAfter told book e from → HoldDue lanes (came_with e (came told.events)) (envelopes_of told) queues

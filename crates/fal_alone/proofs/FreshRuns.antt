@@ -1,5 +1,5 @@
 -- What the clients, nodes and queues of a cluster show is what is fresh after its run.
-use Rattle.std.proofs.Common.{◌≡◌, ℕ, zero, suc, ◌+◌, ◌-◌, ◌<◌, nat_lt, Bool, true, false, cond, List, [], ◌∷◌, ◌++◌, length, map, take, drop, Some, None, refl, sym, ap, subst, ◌∙◌, arith}
+use Rattle.std.proofs.Common.{◌≡◌, ℕ, zero, suc, ◌+◌, ◌-◌, ◌<◌, nat_lt, Bool, true, false, cond, List, [], ◌∷◌, ◌++◌, length, map, take, drop, Some, None, refl, sym, ap, subst, ◌∙◌, arith, append-nil}
 use Rattle.std.specs.Prelude.{slice_get}
 use Rattle.std.specs.List.{flat_map, range_with_len}
 use Rattle.std.proofs.lemmas.Bool.Decides.{nat_tests}
@@ -13,8 +13,9 @@ use Rattle.fal_client.specs.State.{ClientState}
 use Rattle.fal_node.specs.Due.{dues}
 use Rattle.fal_node.specs.Patch.{Seen}
 use Rattle.fal_node.specs.State.{NodeState}
-use Rattle.fal_story.specs.Fresh.{due, event_of, fresh_send, fresh_gets, fresh_at_node, fresh_at, fresh_replies_at, came}
-use Rattle.fal_story.specs.Run.{run}
+use Rattle.fal_story.specs.Fresh.{due, event_of, fresh_send, fresh_gets, fresh_at_node, fresh_at_coord, fresh_at, fresh_replies_at, came}
+use Rattle.fal_story.proofs.Drain.Unheard.{coord_unheard}
+use Rattle.fal_story.specs.Run.{IsLegal, run}
 use Rattle.fal_story.specs.World.{World}
 use Rattle.fal_alone.specs.Queues.{QueueSeen, actor_at, HoldDue}
 use Rattle.fal_alone.specs.Shown.{gets, all_gets, all_node_events, sends, all_lane_events}
@@ -151,28 +152,34 @@ module _ (config : Config) (events : List Event) (clients : List ClientState) (n
       node_events_are w (came events) 0 (node_queues clients queues) nodes nodes_count (nodes_due w (came events) (length clients) queues (held w at)) (nodes_from w (came events) nodes at.nodes_are)
       ∙ ap (λ n. flat_map (λ m. fresh_at_node w (came events) m) (range_with_len 0 n)) whole.nodes_count
 
+  -- nothing is fresh at the coordinator
+  with_none : (w : World) (events : List Event) → fresh_at_coord w (came events) ≡ [] → (xs : List Event) → xs ≡ xs ++ fresh_at_coord w (came events)
+  with_none w events none xs = sym (append-nil xs) ∙ ap (λ more. xs ++ more) (sym none)
+
   -- what the queues and nodes show is what is fresh but Sends
-  pub replies_are : all_gets 1 (lane_queues clients queues) ++ all_node_events 0 (node_queues clients queues) nodes ≡ fresh_replies_at config (run config events) (came events)
-  replies_are =
-      elim (run config events) as (λ o.
+  pub replies_are : IsLegal config events → all_gets 1 (lane_queues clients queues) ++ all_node_events 0 (node_queues clients queues) nodes ≡ fresh_replies_at config (run config events) (came events)
+  replies_are legal =
+      elim (run config events) as (λ o. run config events ≡ o →
       IsWholeAt (length config.lanes) o (came events) clients nodes queues → all_gets 1 (lane_queues clients queues) ++ all_node_events 0 (node_queues clients queues) nodes ≡ fresh_replies_at config o (came events)) [
-        | None ↦ λ at. absurd at
-        | Some w ↦ λ at.
+        | None ↦ λ r at. absurd at
+        | Some w ↦ λ r at.
             let lanes = gets_are w (came events) 1 (lane_queues clients queues) (lanes_due w (came events) (length clients) queues (held w at))
             ∙ ap (λ n. flat_map (λ l. fresh_gets w (came events) l) (range_with_len 1 n)) (lanes_count ∙ whole.clients_count) in
             let own = nodes_show w at in
-            λ i. lanes i ++ own i
-      ] whole.at
+            (λ i. lanes i ++ own i)
+            ∙ with_none w events (coord_unheard config events w legal r) (flat_map (λ l. fresh_gets w (came events) l) (range_with_len 1 (length config.lanes)) ++ flat_map (λ n. fresh_at_node w (came events) n) (range_with_len 0 config.nodes))
+      ] refl whole.at
 
   -- what the clients, queues and nodes show is what is fresh
-  pub fresh_are : all_lane_events 1 (lane_queues clients queues) clients ++ all_node_events 0 (node_queues clients queues) nodes ≡ fresh_at config (run config events) (came events)
-  fresh_are =
-      elim (run config events) as (λ o.
+  pub fresh_are : IsLegal config events → all_lane_events 1 (lane_queues clients queues) clients ++ all_node_events 0 (node_queues clients queues) nodes ≡ fresh_at config (run config events) (came events)
+  fresh_are legal =
+      elim (run config events) as (λ o. run config events ≡ o →
       IsWholeAt (length config.lanes) o (came events) clients nodes queues → all_lane_events 1 (lane_queues clients queues) clients ++ all_node_events 0 (node_queues clients queues) nodes ≡ fresh_at config o (came events)) [
-        | None ↦ λ at. absurd at
-        | Some w ↦ λ at.
+        | None ↦ λ r at. absurd at
+        | Some w ↦ λ r at.
             let lanes = lane_events_are w (came events) 1 (lane_queues clients queues) clients lanes_count (lanes_due w (came events) (length clients) queues (held w at)) (clients_from w (came events) clients at.clients_are)
             ∙ ap (λ n. flat_map (λ l. fresh_send w l ++ fresh_gets w (came events) l) (range_with_len 1 n)) whole.clients_count in
             let own = nodes_show w at in
-            λ i. lanes i ++ own i
-      ] whole.at
+            (λ i. lanes i ++ own i)
+            ∙ with_none w events (coord_unheard config events w legal r) (flat_map (λ l. fresh_send w l ++ fresh_gets w (came events) l) (range_with_len 1 (length config.lanes)) ++ flat_map (λ n. fresh_at_node w (came events) n) (range_with_len 0 config.nodes))
+      ] refl whole.at

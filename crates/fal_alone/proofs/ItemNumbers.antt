@@ -2,7 +2,9 @@
 use Rattle.std.proofs.Common.{◌≡◌, ℕ, ◌+◌, ◌<◌, true, false, cond, List, [], ◌∷◌, Option, Some, None, Result, Ok, Err, is_some, arith}
 use Rattle.std.specs.Prelude.{slice_get, ◌==◌}
 use Rattle.fal_base.specs.declared.call.CallRec.{CallRec}
+use Rattle.std.proofs.lemmas.Option.{none-some}
 use Rattle.fal_base.specs.declared.call.Config.{Config}
+use Rattle.fal_base.specs.declared.event.Actor.TheVariants.{Coord}
 use Rattle.fal_base.specs.declared.event.Envelope.{Envelope}
 use Rattle.fal_base.specs.declared.event.Event.{Event}
 use Rattle.fal_base.specs.declared.event.Event.TheVariants as event
@@ -10,8 +12,8 @@ use Rattle.fal_base.specs.declared.inode.Dentry.{Dentry}
 use Rattle.fal_base.specs.declared.key.Key.{Key}
 use Rattle.fal_batch.specs.Plan.{Planning}
 use Rattle.fal_client.specs.declared.event.ClientEvent.TheVariants as client
-use Rattle.fal_client.specs.State.{ClientMove}
-use Rattle.fal_client.specs.Step.{client_move}
+use Rattle.fal_client.specs.State.{Work as ClientWork}
+use Rattle.fal_client.specs.Step.{client_step}
 use Rattle.fal_exec.specs.RowCall.{row_names}
 use Rattle.fal_node.specs.declared.batch.Batch.{Batch}
 use Rattle.fal_node.specs.declared.batch.BatchCall.{BatchCall}
@@ -21,7 +23,7 @@ use Rattle.fal_node.specs.declared.item.Item.{Item}
 use Rattle.fal_node.specs.Deliver.{admitted, installed, emptied, settle, settle_pending, take_message, take_read, delivered}
 use Rattle.fal_node.specs.Exec.{exec_all, exec_one, exec_as, executed, with_executed}
 use Rattle.fal_node.specs.Gather.{plan_at, leaving, with_waiting, batch_calls, with_batch, batched, gathered}
-use Rattle.fal_node.specs.Letters.{Work, begun}
+use Rattle.fal_node.specs.Letters.{Work, begun, is_asker}
 use Rattle.fal_node.specs.Serve.{served}
 use Rattle.fal_node.specs.State.{NodeState, opening_node, with_item, without_item, released}
 use Rattle.fal_node.specs.Step.{node_step}
@@ -33,15 +35,16 @@ use Rattle.fal_wire.specs.declared.message.Found.TheVariants as found
 use Rattle.fal_wire.specs.declared.message.Message.{Message}
 use Rattle.fal_wire.specs.declared.message.Message.TheVariants as message
 use Rattle.fal_wire.specs.Messages.{reading}
-use Rattle.fal_story.proofs.Each.{Each, Apart, each_weaker, each_join}
-use Rattle.fal_story.proofs.Enabled.{delivers, gathers, execs, releases, serves}
-use Rattle.fal_story.proofs.Lists.{put_all}
-use Rattle.fal_story.proofs.Members.{apart_push, each_without_first, apart_without_first}
-use Rattle.fal_story.proofs.MovingClient.{AfterClient}
-use Rattle.fal_story.proofs.MovingRuns.{after_client, after_node, legal_holds}
-use Rattle.fal_story.proofs.MovingServe.{After}
+use Rattle.fal_story.proofs.Lists.Each.{Each, Apart, each_weaker, each_join}
+use Rattle.fal_story.proofs.Events.Enabled.{delivers, gathers, execs, releases, serves}
+use Rattle.fal_story.proofs.Lists.Grown.{put_all}
+use Rattle.fal_story.proofs.Lists.Members.{apart_push, each_without_first, apart_without_first}
+use Rattle.fal_story.proofs.Drain.MovingClient.{AfterClient}
+use Rattle.fal_story.proofs.Drain.MovingRuns.{after_client, after_node, legal_holds}
+use Rattle.fal_story.proofs.Drain.MovingServe.{After}
 use Rattle.fal_story.specs.Clusters.{is_lane, is_node}
-use Rattle.fal_story.specs.Run.{only_where, client_hears, node_hears, client_deed, node_deed, deed, done, step, run, IsLegal}
+use Rattle.fal_story.specs.Machines.{only_where, client_hears, node_hears, coord_hears, coord_made}
+use Rattle.fal_story.specs.Run.{client_deed, node_deed, deed, deed_by, done, step, run, IsLegal}
 use Rattle.fal_story.specs.World.{World, posted, opening_world}
 
 -- items differ by their numbers, and the next number is new
@@ -86,7 +89,8 @@ pending_items x point key what (Some fetch) h = settled_items x point key what f
 
 message_items : (x : NodeState) (point : ℕ) (m : Message) → HasItems x → HasItems (take_message x point m).node
 message_items x point (message.Call call) h = elim (is_some (row_names call.op)) as (λ b. HasItems (cond b (admitted x call) x)) [ true ↦ admitted_items x call h | false ↦ h ]
-message_items x point (message.FetchAsk asker number key) h = asked_items x (message.FetchAsk asker number key) h
+message_items x point (message.FetchAsk asker number key) h =
+    elim (is_asker x.table.nodes asker) as (λ b. HasItems (cond b (with_item x (message.FetchAsk asker number key)) x)) [ true ↦ asked_items x (message.FetchAsk asker number key) h | false ↦ h ]
 message_items x point (message.FetchGot number key what) h = pending_items x point key what (fetch_of x.waiting number) h
 message_items x point other h = h
 
@@ -147,7 +151,7 @@ heard_items x (Some envelope) k h is = step_items x (Deliver envelope) k h is
 abbrev pub HaveItems : World → Type 0
 HaveItems w = (n : ℕ) → HasItems (w.nodes n)
 
-client_items : (config : Config) (w : World) (l : ℕ) (m : ClientMove) → HaveItems w → HaveItems (AfterClient config w l m)
+client_items : (config : Config) (w : World) (l : ℕ) (m : ClientWork) → HaveItems w → HaveItems (AfterClient config w l m)
 unfolding posted
 client_items config w l m h = h
 
@@ -156,15 +160,19 @@ unfolding posted
 node_items config w n k h here = put_all (λ i x. HasItems x) w.nodes n k.node here (λ i _. h i)
 
 module _ (config : Config) (w : World) (h : HaveItems w) where
-  client_keeps : (u : World) (l : ℕ) (o : Option ClientMove) → done config (client_deed w l (only_where (is_lane config l) o)) ≡ Some u → HaveItems u
+  client_keeps : (u : World) (l : ℕ) (o : Option ClientWork) → done config (client_deed w l (only_where (is_lane config l) o)) ≡ Some u → HaveItems u
   client_keeps u l o at = after_client config w u l o HaveItems (λ m there e. client_items config w l m h) at
 
   node_keeps : (u : World) (n : ℕ) (e : NodeEvent) → done config (node_deed w n (only_where (is_node config n) (node_step (w.nodes n) e))) ≡ Some u → HaveItems u
   node_keeps u n e at = after_node config w u n (node_step (w.nodes n) e) HaveItems (λ k there is. node_items config w n k h (step_items (w.nodes n) e k (h n) is)) at
 
+  unheard : (u : World) (o : Option Envelope) → done config (deed_by w Coord (coord_made (coord_hears w.coord o))) ≡ Some u → HaveItems u
+  unheard u None at = absurd (none-some u at)
+  unheard u (Some x) at = absurd (none-some u at)
+
   world_items : (u : World) (e : Event) → step config w e ≡ Some u → HaveItems u
   unfolding deed
-  world_items u (event.Send l) at = client_keeps u l (client_move (w.clients l) client.Send) at
+  world_items u (event.Send l) at = client_keeps u l (client_step (w.clients l) client.Send) at
   world_items u (event.Get l number) at = client_keeps u l (client_hears (w.clients l) (slice_get w.envelopes number)) at
   world_items u (event.Deliver n number) at =
       after_node config w u n (node_hears (w.nodes n) (slice_get w.envelopes number)) HaveItems
@@ -173,8 +181,8 @@ module _ (config : Config) (w : World) (h : HaveItems w) where
   world_items u (event.Exec n number) at = node_keeps u n (Exec number) at
   world_items u (event.Release n number) at = node_keeps u n (Release number) at
   world_items u (event.Serve n number) at = node_keeps u n (Serve number) at
-  world_items u (event.Hear number) at = absurd (cc)
-  world_items u event.Start at = absurd (cc)
+  world_items u (event.Hear number) at = unheard u (slice_get w.envelopes number) at
+  world_items u event.Start at = absurd (none-some u at)
 
 opening_items : (config : Config) → HaveItems (opening_world config)
 unfolding opening_node

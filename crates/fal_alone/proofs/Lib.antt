@@ -9,6 +9,7 @@ pub mod Places
 pub mod Pushes
 pub mod QuietRuns
 pub mod Ranged
+pub mod Roles
 pub mod RowLines
 pub mod Taken
 pub mod Turns

@@ -8,14 +8,14 @@ use Rattle.fal_base.specs.Tree.{Tree}
 use Rattle.fal_client.specs.State.{ClientState}
 use Rattle.fal_node.specs.Patch.{Seen}
 use Rattle.fal_node.specs.State.{NodeState}
-use Rattle.fal_story.proofs.TreeRows.{rows_are_told}
-use Rattle.fal_story.specs.AllRows.{all_rows, tree_left}
+use Rattle.fal_story.proofs.Trees.TreeRows.{rows_are_told, rows_once}
+use Rattle.fal_story.specs.AllRows.{AreOnce, all_rows, tree_left}
 use Rattle.fal_story.specs.Fresh.{IsQuiet, came}
 use Rattle.fal_story.specs.Run.{IsLegal, run}
 use Rattle.fal_story.specs.Told.{Told}
 use Rattle.fal_story.specs.World.{World}
 use Rattle.fal_alone.specs.Queues.{QueueSeen}
-use Rattle.fal_alone.specs.Quiet.{rows_in}
+use Rattle.fal_alone.specs.NodeRows.{rows_in}
 use Rattle.fal_alone.specs.Turns.{world_of}
 use Rattle.fal_alone.specs.Whole.{IsWhole, IsWholeAt}
 
@@ -45,3 +45,8 @@ whole_rows config events clients nodes queues legal whole =
 pub quiet_rows : (told : Told) → IsLegal told.config told.events
     → (w : World) → world_of told ≡ Some w → IsQuiet told.config w (came told.events) → rows_in told.config w ≡ tree_left told.config told.events
 quiet_rows told legal w at quiet = rows_are_told told.config told.events w legal at
+
+-- and no two nodes have a row under the same key
+pub quiet_once : (told : Told) → IsLegal told.config told.events
+    → (w : World) → world_of told ≡ Some w → IsQuiet told.config w (came told.events) → AreOnce w
+quiet_once told legal w at quiet = rows_once told.config told.events w legal at

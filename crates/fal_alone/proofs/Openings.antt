@@ -6,7 +6,7 @@ use Rattle.fal_base.specs.declared.call.Config.{Config}
 use Rattle.fal_client.specs.State.{ClientState, opening_client}
 use Rattle.fal_node.specs.Patch.{Seen}
 use Rattle.fal_node.specs.State.{opening_node}
-use Rattle.fal_story.proofs.Lists.{slice_get_snoc}
+use Rattle.fal_story.proofs.Lists.Grown.{slice_get_snoc}
 use Rattle.fal_story.specs.Clusters.{calls_of_lane}
 use Rattle.fal_story.specs.Fresh.{came}
 use Rattle.fal_story.specs.Run.{run}

@@ -9,8 +9,8 @@ use Rattle.fal_base.specs.declared.event.Actor.TheVariants.{Client, Node, Coord}
 use Rattle.fal_base.specs.declared.event.Envelope.{Envelope}
 use Rattle.fal_story.specs.Fresh.{is_actor, due_with, due, due_from}
 use Rattle.fal_story.specs.World.{put}
-use Rattle.fal_story.proofs.Dues.{without, due_snoc, due_came, due_other}
-use Rattle.fal_story.proofs.Lists.{tells, slice_get_below}
+use Rattle.fal_story.proofs.Drain.Dues.{without, due_snoc, due_came, due_other}
+use Rattle.fal_story.proofs.Lists.Grown.{tells, slice_get_below}
 use Rattle.fal_alone.specs.Queues.{QueueSeen, actor_at, place_of, Holds, HoldDue, HaveRoom, WasSentTo, given}
 
 -- both of two tests hold

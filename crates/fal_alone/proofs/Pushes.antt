@@ -8,7 +8,7 @@ use Rattle.fal_base.specs.declared.call.Call.{Call}
 use Rattle.fal_client.specs.declared.current.Current.{Current}
 use Rattle.fal_client.specs.declared.event.ClientEvent.TheVariants as client
 use Rattle.fal_client.specs.State.{ClientState}
-use Rattle.fal_client.specs.Step.{client_move, sent_next}
+use Rattle.fal_client.specs.Step.{client_step, sent_next}
 use Rattle.fal_node.specs.Patch.{Seen}
 use Rattle.fal_alone.specs.Queues.{QueueSeen}
 use Rattle.fal_alone.specs.Shown.{all_lane_events, all_node_events}
@@ -65,8 +65,8 @@ push_ends f xs old events count p none = p.so_far ∙ ap (λ ys. old ++ ys) (all
 -- ---- Sends
 
 -- a client has a Send exactly where no call is under way and one is left
-pub can_send : (c : ClientState) → (is_none c.current && nat_lt 0 (length c.left)) ≡ is_some (client_move c client.Send)
-unfolding client_move sent_next
+pub can_send : (c : ClientState) → (is_none c.current && nat_lt 0 (length c.left)) ≡ is_some (client_step c client.Send)
+unfolding client_step sent_next
 can_send c = by_parts c.current c.left
   where
     by_parts : (current : Option Current) (left : List Call) → (is_none current && nat_lt 0 (length left)) ≡ is_some (sent_next c current (slice_get left 0))

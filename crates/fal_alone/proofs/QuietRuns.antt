@@ -10,13 +10,15 @@ use Rattle.fal_base.specs.declared.event.Envelope.{Envelope}
 use Rattle.fal_base.specs.declared.event.Event.{Event}
 use Rattle.fal_batch.proofs.Truth.{both_first, both_second}
 use Rattle.fal_client.specs.State.{ClientState}
+use Rattle.fal_coord.specs.State.{opening_coord, is_quiet as is_coord_quiet}
 use Rattle.fal_node.specs.Due.{is_quiet}
 use Rattle.fal_node.specs.Patch.{Seen}
-use Rattle.fal_story.proofs.Actors.{IsActor}
-use Rattle.fal_story.proofs.Dues.{none_due, all_came}
-use Rattle.fal_story.proofs.Members.{each_in, in_at}
-use Rattle.fal_story.proofs.Moving.{IsMoving}
-use Rattle.fal_story.proofs.MovingRuns.{legal_moves}
+use Rattle.fal_story.proofs.Drain.Actors.{IsActor}
+use Rattle.fal_story.proofs.Drain.Dues.{none_due, all_came}
+use Rattle.fal_story.proofs.Drain.Unheard.{coord_rests}
+use Rattle.fal_story.proofs.Lists.Members.{each_in, in_at}
+use Rattle.fal_story.proofs.Drain.Moving.{IsMoving}
+use Rattle.fal_story.proofs.Drain.MovingRuns.{legal_moves}
 use Rattle.fal_story.specs.Fresh.{IsQuiet, IsQuietAt, is_actor, due, came}
 use Rattle.fal_story.specs.Run.{IsLegal, run}
 use Rattle.fal_story.specs.World.{World}
@@ -73,8 +75,8 @@ module _ (config : Config) (w : World) (c : ℕ → Bool) (clients : List Client
   none_to (Node n) size empty there = none_at (length config.lanes + n) (Node n) size empty (omega arith) (node_at (length config.lanes) n)
   none_to Coord size empty there = absurd there
 
-  quiet_in : length queues ≡ length config.lanes + config.nodes → length nodes ≡ config.nodes → IsMoving config w c → no_numbers queues ≡ true → all_quiet nodes ≡ true → IsQuiet config w c
-  quiet_in size count m empty quiet = record {
+  quiet_in : length queues ≡ length config.lanes + config.nodes → length nodes ≡ config.nodes → IsMoving config w c → w.coord ≡ opening_coord config.nodes → no_numbers queues ≡ true → all_quiet nodes ≡ true → IsQuiet config w c
+  quiet_in size count m rests empty quiet = record {
     all_came = λ k x is.
         let e : k + 0 ≡ k = omega arith in
         ap c (sym e) ∙ none_due x.to c 0 w.envelopes (none_to x.to size empty (each_in (λ (y : Envelope). IsActor config y.to) w.envelopes x m.within (in_at w.envelopes k x is))) k x is (itself x.to);
@@ -86,6 +88,7 @@ module _ (config : Config) (w : World) (c : ℕ → Bool) (clients : List Client
               ap is_quiet (sym (at.nodes_are n x.0 x.1)) ∙ all_at (λ (y : Seen). is_quiet y.state) nodes quiet n x.0 x.1
           | false ↦ λ is. let beyond : config.nodes ≤ n = grind (arith, nat_tests) in m.beyond n beyond
         ] refl;
+    coord = ap (λ x. is_coord_quiet x) rests;
   }
 
   empty_in : IsQuiet config w c → (no_numbers queues ≡ true) × (all_quiet nodes ≡ true)
@@ -104,7 +107,7 @@ module _ (config : Config) (events : List Event) (clients : List ClientState) (n
   quiet_run legal empty quiet =
       elim (run config events) as (λ o. run config events ≡ o → IsWholeAt (length config.lanes) o (came events) clients nodes queues → IsQuietAt config o (came events)) [
         | None ↦ λ is at. absurd at
-        | Some w ↦ λ is at. quiet_in config w (came events) clients nodes queues at whole.queues_count whole.nodes_count (legal_moves config events w legal is).1 empty quiet
+        | Some w ↦ λ is at. quiet_in config w (came events) clients nodes queues at whole.queues_count whole.nodes_count (legal_moves config events w legal is).1 (coord_rests config events w is) empty quiet
       ] refl whole.at
 
   -- where the run is quiet, no queue has a number and every node is quiet

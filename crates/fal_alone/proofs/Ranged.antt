@@ -1,10 +1,12 @@
 -- What an actor makes of an event after a legal run is within the ranges of records and counters.
 use Rattle.std.proofs.Common.{◌≡◌, ℕ, ◌+◌, ◌<◌, ◌^◌, List, [], ◌∷◌, length, Some, None, refl, sym, ap, subst, arith}
-use Rattle.std.specs.Prelude.{IsTrue}
+use Rattle.std.specs.Prelude.{IsTrue, slice_get}
 use Rattle.std.proofs.lemmas.Bool.Decides.{nat_tests}
-use Rattle.std.proofs.lemmas.Option.{same_Some}
+use Rattle.std.proofs.lemmas.Option.{none-some, same_Some}
 use Rattle.fal_base.specs.declared.call.Config.{Config}
+use Rattle.fal_base.specs.declared.event.Envelope.{Envelope}
 use Rattle.fal_base.specs.declared.event.Event.{Event}
+use Rattle.fal_base.specs.declared.event.Event.TheVariants as event
 use Rattle.fal_client.specs.declared.event.ClientEvent.{ClientEvent}
 use Rattle.fal_client.specs.declared.event.ClientEvent.TheVariants as client
 use Rattle.fal_client.specs.State.{ClientState}
@@ -13,26 +15,33 @@ use Rattle.fal_node.specs.declared.event.NodeEvent.{NodeEvent}
 use Rattle.fal_node.specs.declared.event.NodeEvent.TheVariants as node
 use Rattle.fal_node.specs.State.{NodeState}
 use Rattle.fal_node.specs.Step.{StaysWithin}
-use Rattle.fal_story.proofs.InRange.{client_in_range, node_in_range}
-use Rattle.fal_story.proofs.LegalRuns.{legal_kept, step_counts}
-use Rattle.fal_story.proofs.Ranges.{Comes, ComesToClient}
+use Rattle.fal_story.proofs.Ranges.InRange.{client_in_range, node_in_range}
+use Rattle.fal_story.proofs.Events.LegalRuns.{legal_kept, step_counts}
+use Rattle.fal_story.proofs.Ranges.Bounds.{Comes, ComesToClient}
 use Rattle.fal_story.specs.Clusters.{is_lane, is_node}
+use Rattle.fal_story.specs.Machines.{envelope_named}
 use Rattle.fal_story.specs.Run.{IsLegal, run, run_from, step}
 use Rattle.fal_story.specs.Told.{Told}
 use Rattle.fal_story.specs.World.{World, opening_world}
-use Rattle.fal_alone.specs.Turns.{world_of, ClientTakes, NodeTakes, IsEventOfClient, IsEventOfClientIn, IsEventOfNode, IsEventOfNodeIn, IsClientIn, IsNodeIn}
+use Rattle.fal_alone.specs.Turns.{world_of, ClientGets, NodeGets, IsEventOfClient, IsEventOfClientIn, IsEventOfNode, IsEventOfNodeIn, IsClientIn, IsNodeIn}
 
--- what comes was sent
-comes_to_client : (w : World) (own : ClientEvent) → ClientTakes w own → ComesToClient w own
-comes_to_client w (client.Get envelope) takes = takes
-comes_to_client w client.Send takes = tt
+-- the envelope that an event names was sent
+named_sent : (sent : List Envelope) (e : Event) (x : Envelope) → envelope_named sent e ≡ Some x → (number : ℕ) × (slice_get sent number ≡ Some x)
+named_sent sent (event.Get lane number) x at = (number, at)
+named_sent sent (event.Deliver node number) x at = (number, at)
+named_sent sent (event.Hear number) x at = (number, at)
+named_sent sent e x at = absurd (none-some x at)
 
-comes_to_node : (w : World) (own : NodeEvent) → NodeTakes w own → Comes w own
-comes_to_node w (node.Deliver envelope) takes = takes
-comes_to_node w node.Gather takes = tt
-comes_to_node w (node.Exec batch) takes = tt
-comes_to_node w (node.Release batch) takes = tt
-comes_to_node w (node.Serve item) takes = tt
+comes_to_client : (w : World) (e : Event) (own : ClientEvent) → ClientGets own (envelope_named w.envelopes e) → ComesToClient w own
+comes_to_client w e (client.Get envelope) gets = named_sent w.envelopes e envelope gets
+comes_to_client w e client.Send gets = tt
+
+comes_to_node : (w : World) (e : Event) (own : NodeEvent) → NodeGets own (envelope_named w.envelopes e) → Comes w own
+comes_to_node w e (node.Deliver envelope) gets = named_sent w.envelopes e envelope gets
+comes_to_node w e node.Gather gets = tt
+comes_to_node w e (node.Exec batch) gets = tt
+comes_to_node w e (node.Release batch) gets = tt
+comes_to_node w e (node.Serve item) gets = tt
 
 -- a world counts the events that led to it
 run_counts : (config : Config) (w u : World) (events : List Event) → run_from config (Some w) events ≡ Some u → u.events ≡ w.events + length events
@@ -64,7 +73,7 @@ client_can_make told e lane own c legal there is at =
       | Some w ↦ λ r i a.
           let k = legal_kept told.config told.events w legal r in
           subst (λ s. CanMake s own) (sym a)
-          (λ move moves. (client_in_range told.config w lane k.ghost own move legal.cluster there k.shows k.ranged (comes_to_client w own i.0) moves).0)
+          (λ move moves. (client_in_range told.config w lane k.ghost own move legal.cluster there k.shows k.ranged (comes_to_client w e own i.gets) moves).0)
     ] refl is at
 
 -- and so is what a node makes
@@ -78,5 +87,5 @@ node_stays_within told e number own n legal there is at =
           let below : number < told.config.nodes = grind (arith, nat_tests) in
           subst (λ s. StaysWithin s own) (sym a)
           (λ work does.
-          (node_in_range told.config w number k.ghost own work legal.cluster below (few_events told.config w told.events legal.few r) k.shows k.ranged (comes_to_node w own i.0) does).0)
+          (node_in_range told.config w number k.ghost own work legal.cluster below (few_events told.config w told.events legal.few r) k.shows k.ranged (comes_to_node w e own i.gets) does).0)
     ] refl is at

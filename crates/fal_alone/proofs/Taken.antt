@@ -4,26 +4,27 @@ use Rattle.std.specs.Prelude.{slice_get, is_some, IsSome, IsNone}
 use Rattle.std.proofs.lemmas.Bool.Decides.{nat_tests}
 use Rattle.fal_base.specs.declared.call.Config.{Config}
 use Rattle.fal_base.specs.declared.event.Actor.{Actor}
-use Rattle.fal_base.specs.declared.event.Actor.TheVariants.{Client, Node}
+use Rattle.fal_base.specs.declared.event.Actor.TheVariants.{Client, Node, Coord}
 use Rattle.fal_base.specs.declared.event.Envelope.{Envelope}
 use Rattle.fal_base.specs.declared.event.Event.{Event}
 use Rattle.fal_base.specs.declared.event.Event.TheVariants as event
 use Rattle.fal_client.specs.declared.event.ClientEvent.TheVariants as client
-use Rattle.fal_client.specs.State.{ClientState, ClientMove}
-use Rattle.fal_client.specs.Step.{client_move, got, is_lane as is_for}
+use Rattle.fal_client.specs.State.{ClientState, Work as ClientWork}
+use Rattle.fal_client.specs.Step.{client_step, got, is_lane as is_for}
 use Rattle.fal_node.specs.declared.event.NodeEvent.TheVariants as node
 use Rattle.fal_node.specs.Deliver.{delivered}
 use Rattle.fal_node.specs.Letters.{Work}
 use Rattle.fal_node.specs.State.{NodeState}
 use Rattle.fal_node.specs.Step.{node_step, only_if, is_node as is_of}
-use Rattle.fal_story.proofs.Actors.{IsActor}
-use Rattle.fal_story.proofs.Enabled.{delivers}
-use Rattle.fal_story.proofs.EnabledClient.{gets_own}
-use Rattle.fal_story.proofs.LegalRuns.{legal_kept}
-use Rattle.fal_story.proofs.Members.{each_in, in_at}
-use Rattle.fal_story.proofs.MovingRuns.{legal_moves}
+use Rattle.fal_story.proofs.Drain.Actors.{IsActor}
+use Rattle.fal_story.proofs.Events.Enabled.{delivers}
+use Rattle.fal_story.proofs.Events.EnabledClient.{gets_own}
+use Rattle.fal_story.proofs.Events.LegalRuns.{legal_kept}
+use Rattle.fal_story.proofs.Lists.Members.{each_in, in_at}
+use Rattle.fal_story.proofs.Drain.MovingRuns.{legal_moves}
 use Rattle.fal_story.specs.Clusters.{is_lane, is_node}
-use Rattle.fal_story.specs.Run.{run, only_where, client_hears, node_hears, client_deed, node_deed, deed, envelopes_at, IsLegal}
+use Rattle.fal_story.specs.Machines.{only_where, client_hears, node_hears, coord_hears, coord_made}
+use Rattle.fal_story.specs.Run.{run, client_deed, node_deed, deed, deed_by, envelopes_at, IsLegal}
 use Rattle.fal_story.specs.World.{World}
 use Rattle.fal_alone.specs.Queues.{WasSentTo}
 use Rattle.fal_alone.specs.Turns.{deed_in, IsEventOfClientIn, IsEventOfNodeIn}
@@ -32,51 +33,48 @@ use Rattle.fal_alone.specs.Turns.{deed_in, IsEventOfClientIn, IsEventOfNodeIn}
 
 -- a Send is its lane's
 pub of_send : (config : Config) (o : Option World) (lane : ℕ) → IsSome o → IsEventOfClientIn config o (event.Send lane) lane client.Send
-unfolding deed
 of_send config None lane some = absurd (cc)
-of_send config (Some w) lane some = (tt, refl)
+of_send config (Some w) lane some = record { by = refl; gets = tt; makes = λ c. refl }
 
 -- a Get is its lane's, which hears the envelope
 pub of_get : (config : Config) (o : Option World) (lane number : ℕ) (x : Envelope) → IsSome o → slice_get (envelopes_at o) number ≡ Some x → IsEventOfClientIn config o (event.Get lane number) lane (client.Get x)
-unfolding deed
 of_get config None lane number x some at = absurd (cc)
-of_get config (Some w) lane number x some at = ((number, at), ap (λ y. client_deed w lane (only_where (is_lane config lane) (client_hears (w.clients lane) y))) at)
+of_get config (Some w) lane number x some at = record { by = refl; gets = at; makes = λ c. ap (λ y. only_where (is_lane config lane) (client_hears c y)) at }
 
 -- a Deliver is its node's, which hears the envelope
 pub of_deliver : (config : Config) (o : Option World) (n number : ℕ) (x : Envelope) → IsSome o → slice_get (envelopes_at o) number ≡ Some x → IsEventOfNodeIn config o (event.Deliver n number) n (node.Deliver x)
-unfolding deed
 of_deliver config None n number x some at = absurd (cc)
-of_deliver config (Some w) n number x some at = ((number, at), ap (λ y. node_deed w n (only_where (is_node config n) (node_hears (w.nodes n) y))) at)
+of_deliver config (Some w) n number x some at = record { by = refl; gets = at; makes = λ m. ap (λ y. only_where (is_node config n) (node_hears m y)) at }
 
 -- a Gather is its node's
 pub of_gather : (config : Config) (o : Option World) (n : ℕ) → IsSome o → IsEventOfNodeIn config o (event.Gather n) n node.Gather
-unfolding deed
 of_gather config None n some = absurd (cc)
-of_gather config (Some w) n some = (tt, refl)
+of_gather config (Some w) n some = record { by = refl; gets = tt; makes = λ m. refl }
 
 -- an Exec is its node's
 pub of_exec : (config : Config) (o : Option World) (n batch : ℕ) → IsSome o → IsEventOfNodeIn config o (event.Exec n batch) n (node.Exec batch)
-unfolding deed
 of_exec config None n batch some = absurd (cc)
-of_exec config (Some w) n batch some = (tt, refl)
+of_exec config (Some w) n batch some = record { by = refl; gets = tt; makes = λ m. refl }
 
 -- a Release is its node's
 pub of_release : (config : Config) (o : Option World) (n batch : ℕ) → IsSome o → IsEventOfNodeIn config o (event.Release n batch) n (node.Release batch)
-unfolding deed
 of_release config None n batch some = absurd (cc)
-of_release config (Some w) n batch some = (tt, refl)
+of_release config (Some w) n batch some = record { by = refl; gets = tt; makes = λ m. refl }
 
 -- a Serve is its node's
 pub of_serve : (config : Config) (o : Option World) (n item : ℕ) → IsSome o → IsEventOfNodeIn config o (event.Serve n item) n (node.Serve item)
-unfolding deed
 of_serve config None n item some = absurd (cc)
-of_serve config (Some w) n item some = (tt, refl)
+of_serve config (Some w) n item some = record { by = refl; gets = tt; makes = λ m. refl }
 
 -- the coordinator hears nothing, since no operation needs it yet
 pub none_hears : (config : Config) (o : Option World) (number : ℕ) → IsNone (deed_in config o (event.Hear number))
 unfolding deed
 none_hears config None number = refl
-none_hears config (Some w) number = refl
+none_hears config (Some w) number = heard w (slice_get w.envelopes number)
+  where
+    heard : (w : World) (x : Option Envelope) → IsNone (deed_by w Coord (coord_made (coord_hears w.coord x)))
+    heard w None = refl
+    heard w (Some x) = refl
 
 -- and it does not start
 pub none_starts : (config : Config) (o : Option World) → IsNone (deed_in config o event.Start)
@@ -86,7 +84,7 @@ none_starts config (Some w) = refl
 
 -- ---- what comes to a lane
 
-unsent_get : (w : World) (lane number : ℕ) (there : Bool) (o : Option Envelope) (m : Option ClientMove) → slice_get w.envelopes number ≡ o → client_hears (w.clients lane) o ≡ m → (w.clients lane).lane ≡ lane
+unsent_get : (w : World) (lane number : ℕ) (there : Bool) (o : Option Envelope) (m : Option ClientWork) → slice_get w.envelopes number ≡ o → client_hears (w.clients lane) o ≡ m → (w.clients lane).lane ≡ lane
     → (WasSentTo (Client lane) number w.envelopes → ⊥) → client_deed w lane (only_where there m) ≡ None
 unsent_get w lane number false o m at is own none = refl
 unsent_get w lane number true o None at is own none = refl
@@ -104,11 +102,11 @@ no_get config events lane number legal none =
           ap (λ d. is_some d) (unsent_get w lane number (is_lane config lane) (slice_get w.envelopes number) (client_hears (w.clients lane) (slice_get w.envelopes number)) refl refl (kept.shows.heard lane).lane f)
     ] refl none
 
-hears_own : (c : ClientState) (x : Envelope) (lane : ℕ) → c.lane ≡ lane → x.to ≡ Client lane → is_some (client_move c (client.Get x)) ≡ true
-unfolding client_move is_for got
+hears_own : (c : ClientState) (x : Envelope) (lane : ℕ) → c.lane ≡ lane → x.to ≡ Client lane → is_some (client_step c (client.Get x)) ≡ true
+unfolding client_step is_for got
 hears_own c x lane own to = ap (λ b. is_some (got c x b)) (ap (is_for c.lane) to ∙ eq-eqb lane c.lane (sym own))
 
-client_some : (w : World) (lane : ℕ) (there : Bool) (m : Option ClientMove) → there ≡ true → is_some m ≡ true → is_some (client_deed w lane (only_where there m)) ≡ true
+client_some : (w : World) (lane : ℕ) (there : Bool) (m : Option ClientWork) → there ≡ true → is_some m ≡ true → is_some (client_deed w lane (only_where there m)) ≡ true
 client_some w lane false m here some = absurd (cc)
 client_some w lane true None here some = absurd (cc)
 client_some w lane true (Some move) here some = refl
@@ -126,7 +124,7 @@ some_get config events lane number legal sent =
           let moves = legal_moves config events w legal t in
           let there : IsTrue (is_lane config lane) = subst (IsActor config) to (each_in (λ (e : Envelope). IsActor config e.to) w.envelopes x moves.1.within (in_at w.envelopes number x at)) in
           subst (λ y. is_some (client_deed w lane (only_where (is_lane config lane) (client_hears (w.clients lane) y))) ≡ true) (sym at)
-          (client_some w lane (is_lane config lane) (client_move (w.clients lane) (client.Get x)) there (hears_own (w.clients lane) x lane (moves.0.shows.heard lane).lane to))
+          (client_some w lane (is_lane config lane) (client_step (w.clients lane) (client.Get x)) there (hears_own (w.clients lane) x lane (moves.0.shows.heard lane).lane to))
     ] refl sent
   where
     nowhere : WasSentTo (Client lane) number [] → ⊥

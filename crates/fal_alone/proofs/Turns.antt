@@ -1,8 +1,8 @@
 -- An event of an actor that is there adds to a run what the actor's step makes.
-use Rattle.std.proofs.Common.{◌≡◌, ℕ, ◌+◌, Bool, true, false, List, length, map, Option, Some, None, refl, sym, ap, ◌∙◌, subst, arith, eqb-true, length-append}
-use Rattle.std.specs.Prelude.{slice_get, IsTrue, IsSomeAnd}
-use Rattle.std.specs.Option.{option_map}
+use Rattle.std.proofs.Common.{◌≡◌, ℕ, ◌+◌, Bool, true, false, ◌++◌, length, Option, Some, None, refl, sym, ap, ◌∙◌, subst, arith, eqb-true, length-append}
+use Rattle.std.specs.Prelude.{slice_get, IsTrue, IsNone, IsSomeAnd, List}
 use Rattle.std.proofs.lemmas.List.{length-map}
+use Rattle.std.proofs.lemmas.Option.{none-some}
 use Rattle.fal_base.specs.declared.call.Config.{Config}
 use Rattle.fal_base.specs.declared.event.Actor.{Actor}
 use Rattle.fal_base.specs.declared.event.Actor.TheVariants.{Client, Node, Coord}
@@ -12,26 +12,24 @@ use Rattle.fal_base.specs.declared.event.Event.TheVariants as event
 use Rattle.fal_base.specs.declared.event.Output.{Output}
 use Rattle.fal_client.specs.declared.event.ClientEvent.{ClientEvent}
 use Rattle.fal_client.specs.declared.event.ClientEvent.TheVariants as client
-use Rattle.fal_client.specs.Patch.{Patch, IsStep as IsClientStep, StepsBy, patched as patched_client}
-use Rattle.fal_client.specs.State.{ClientState, ClientMove}
-use Rattle.fal_client.specs.Step.{client_move, work_of, output_of as client_output}
+use Rattle.fal_client.specs.State.{ClientState}
+use Rattle.fal_client.specs.Step.{client_step}
 use Rattle.fal_node.specs.declared.event.NodeEvent.{NodeEvent}
 use Rattle.fal_node.specs.declared.event.NodeEvent.TheVariants as node
-use Rattle.fal_node.specs.declared.patch.Prepared.{Prepared}
-use Rattle.fal_node.specs.Letters.{Work, output_of as node_output}
-use Rattle.fal_node.specs.Patch.{Seen, patched as patched_node}
-use Rattle.fal_node.specs.Ready.{IsStepOf, IsStepFor}
+use Rattle.fal_node.specs.State.{NodeState}
 use Rattle.fal_node.specs.Step.{node_step, is_node as is_for}
-use Rattle.fal_story.proofs.Books.{deed_does, run_snoc, then, world_then}
-use Rattle.fal_story.proofs.Enabled.{delivers}
-use Rattle.fal_story.proofs.EnabledClient.{gets_own}
-use Rattle.fal_story.proofs.LegalRuns.{IsKept, legal_kept}
+use Rattle.fal_story.proofs.Histories.Books.{deed_does, run_snoc, then, world_then}
+use Rattle.fal_story.proofs.Events.Enabled.{delivers}
+use Rattle.fal_story.proofs.Events.EnabledClient.{gets_own}
+use Rattle.fal_story.proofs.Events.LegalRuns.{IsKept, legal_kept}
+use Rattle.fal_story.specs.Actors.{actor_of}
 use Rattle.fal_story.specs.Clusters.{is_lane, is_node}
-use Rattle.fal_story.specs.Run.{Deed, IsLegal, client_deed, client_hears, deed, done, envelopes_at, node_deed, node_hears, only_where, run}
+use Rattle.fal_story.specs.Machines.{Machine, ClientMachine, NodeMachine, Made, client_made, node_made, coord_made, client_hears, node_hears, coord_hears, envelope_named, machine_step, only_where}
+use Rattle.fal_story.specs.Run.{Deed, IsLegal, Follows, Makes, client_deed, deed, deed_by, done, envelopes_at, machine_in, node_deed, run, with_machine}
 use Rattle.fal_story.specs.Told.{Told}
-use Rattle.fal_story.specs.World.{World, put, posted, envelopes_of as envelopes_made}
+use Rattle.fal_story.specs.World.{World, posted, envelopes_of as envelopes_made}
 use Rattle.fal_alone.specs.Queues.{WasSentTo, TakesItsOwn}
-use Rattle.fal_alone.specs.Turns.{world_of, envelopes_of, with_event, sent_by, IsEventOfClient, IsEventOfClientIn, IsEventOfNode, IsEventOfNodeIn, IsClientIn, IsNodeIn, ClientNext, ClientNextIn, NodeNext, NodeNextIn}
+use Rattle.fal_alone.specs.Turns.{world_of, envelopes_of, with_event, deed_in, deed_after, sent_by, IsOwn, IsOwnIn, IsEventOfClient, IsEventOfClientIn, IsEventOfNode, IsEventOfNodeIn, IsClientIn, IsNodeIn, Next, NextIn}
 
 -- ---- what an enabled event takes
 
@@ -41,7 +39,7 @@ client_took : (w : World) (l number : ℕ) (b : Bool) (o : Option Envelope) (d :
 client_took w l number false o d placed at is = absurd (cc)
 client_took w l number true None d placed at is = absurd (cc)
 client_took w l number true (Some x) d placed at is =
-    elim (client_move (w.clients l) (client.Get x)) as (λ m. client_move (w.clients l) (client.Get x) ≡ m → client_deed w l m ≡ Some d → WasSentTo (Client l) number w.envelopes) [
+    elim (client_step (w.clients l) (client.Get x)) as (λ m. client_step (w.clients l) (client.Get x) ≡ m → client_deed w l m ≡ Some d → WasSentTo (Client l) number w.envelopes) [
       | None ↦ λ t z. absurd (cc)
       | Some m ↦ λ t z. (x, (at, gets_own (w.clients l) x m t ∙ ap Client placed))
     ] refl is
@@ -62,6 +60,11 @@ node_took w n number true (Some x) d placed at is =
       | Some k ↦ λ t z. (x, (at, delivers (w.nodes n) x k (λ _. x.to ≡ Node n) (λ to. node_to x.to (w.nodes n).number to ∙ ap Node placed) t))
     ] refl is
 
+-- the coordinator hears nothing yet
+hears_nothing : (w : World) (o : Option Envelope) (d : Deed) → deed_by w Coord (coord_made (coord_hears w.coord o)) ≡ Some d → ⊥
+hears_nothing w None d is = none-some d is
+hears_nothing w (Some x) d is = none-some d is
+
 -- in a world that is kept, what an enabled event takes was sent to the actor that takes it
 takes_own : (config : Config) (w : World) (e : Event) (d : Deed) → IsKept config w → deed config w e ≡ Some d → TakesItsOwn e w.envelopes
 unfolding deed
@@ -72,7 +75,7 @@ takes_own config w (event.Gather n) d kept is = tt
 takes_own config w (event.Exec n batch) d kept is = tt
 takes_own config w (event.Release n batch) d kept is = tt
 takes_own config w (event.Serve n item) d kept is = tt
-takes_own config w (event.Hear number) d kept is = absurd (cc)
+takes_own config w (event.Hear number) d kept is = absurd (hears_nothing w (slice_get w.envelopes number) d is)
 takes_own config w event.Start d kept is = tt
 
 -- ---- what an enabled event adds
@@ -106,80 +109,127 @@ adds told e w d legal at is =
       sends = omega arith;
     }
 
--- ---- a client's event
+-- ---- an event of an actor
 
--- what a client's move does to the cluster
-abbrev deed_of_client : World → ℕ → ClientMove → Deed
-deed_of_client w lane m = record { world = record w { clients = put w.clients lane m.client }; from = Client lane; sent = map client_output m.messages; notes = m.notes }
+-- what the actor made, as the cluster has it
+abbrev deed_made : World → Event → Made → Deed
+deed_made w e k = record { world = with_machine w (actor_of e) k.0; from = actor_of e; sent = k.1.sent; notes = k.1.notes }
 
-next_of_client : (config : Config) (w : World) (lane : ℕ) (m : ClientMove) → ClientNext w (world_then config w (deed_of_client w lane m)) lane m.client
+made_is : (config : Config) (w : World) (e : Event) (m : Machine) (made : Option Made) (k : Made) → IsOwnIn config (Some w) e m made → made ≡ Some k → deed config w e ≡ Some (deed_made w e k)
+unfolding deed
+made_is config w e m made k is some =
+    ap (λ x. deed_by w (actor_of e) (machine_step config x e (envelope_named w.envelopes e))) is.0 ∙ ap (λ o. deed_by w (actor_of e) o) (is.1 ∙ some)
+
+next_of : (config : Config) (w : World) (e : Event) (k : Made) → deed config w e ≡ Some (deed_made w e k) → Next w (world_then config w (deed_made w e k)) (actor_of e) k.0
 unfolding posted
-next_of_client config w lane m =
-    record { clients = refl; nodes = refl; sent = envelopes_made (Client lane) w.events (length w.commits) (map client_output m.messages); envelopes = refl }
+next_of config w e k is =
+    let d = deed_made w e k in
+    let does = deed_does config w e d is in
+    let sent = envelopes_made d.from d.world.events (length d.world.commits) d.sent in
+    record { clients = refl; nodes = refl; coord = refl; sent = sent; envelopes = ap (λ xs. xs ++ sent) does.envelopes }
 
--- the event adds what the patch sends, and the lane's client is the patched one
-pub record ClientTurns (told : Told) (e : Event) (lane : ℕ) (c : ClientState) (p : Patch) : Type 0 where
-  pub adds : Adds told e p.sent
-  pub next : ClientNextIn (world_of told) (world_of (with_event told e)) lane (patched_client c p.change)
+-- the event adds what was prepared to be sent, and the actor is in the state that it leads to
+pub record Turns (told : Told) (e : Event) (k : Made) : Type 0 where
+  pub follows : Follows told.config told.events e k.1.sent k.1.notes
+  pub adds : Adds told e k.1.sent
+  pub next : NextIn (world_of told) (world_of (with_event told e)) (actor_of e) k.0
 
-client_turns_at : (told : Told) (e : Event) (lane : ℕ) (c : ClientState) (p : Patch) (w : World) (o : Option ClientMove) → IsLegal told.config told.events → world_of told ≡ Some w
-    → deed told.config w e ≡ client_deed w lane o → IsSomeAnd (option_map work_of o) (λ k. IsClientStep c k p) → ClientTurns told e lane c p
-client_turns_at told e lane c p w None legal at is step = absurd step
-client_turns_at told e lane c p w (Some m) legal at is step = record {
-  adds = subst (Adds told e) step.sent (adds told e w (deed_of_client w lane m) legal at is);
-  next = subst (λ s. ClientNextIn (world_of told) (world_of (with_event told e)) lane s) step.client
-      (subst (λ o. ClientNextIn o (world_of (with_event told e)) lane m.client) (sym at)
-      (subst (λ o. ClientNextIn (Some w) o lane m.client) (sym (after told e w (deed_of_client w lane m) at is))
-      (next_of_client told.config w lane m)));
+turns_at : (told : Told) (e : Event) (k : Made) (w : World) → IsLegal told.config told.events → world_of told ≡ Some w → deed told.config w e ≡ Some (deed_made w e k) → Turns told e k
+turns_at told e k w legal at is = record {
+  follows = subst (λ o. Makes told.config o e k.1.sent k.1.notes) (sym at)
+      (subst (λ o. IsSomeAnd o (λ (d : Deed). (d.sent ≡ k.1.sent) × (d.notes ≡ k.1.notes))) (sym is) (refl, refl));
+  adds = adds told e w (deed_made w e k) legal at is;
+  next = subst (λ o. NextIn o (world_of (with_event told e)) (actor_of e) k.0) (sym at)
+      (subst (λ o. NextIn (Some w) o (actor_of e) k.0) (sym (after told e w (deed_made w e k) at is)) (next_of told.config w e k is));
 }
 
--- what a client made ready for an event is what the event does
-pub client_turns : (told : Told) (e : Event) (lane : ℕ) (own : ClientEvent) (c : ClientState) (p : Patch) → IsLegal told.config told.events → IsTrue (is_lane told.config lane)
-    → IsEventOfClient told e lane own → IsClientIn (world_of told) lane c → StepsBy c own p → ClientTurns told e lane c p
-client_turns told e lane own c p legal there is at step =
-    elim (run told.config told.events) as (λ o. run told.config told.events ≡ o → IsEventOfClientIn told.config o e lane own → IsClientIn o lane c → ClientTurns told e lane c p) [
-      | None ↦ λ r i a. absurd i
-      | Some w ↦ λ r i a.
-          client_turns_at told e lane c p w (client_move c own) legal r
-          (i.1 ∙ ap (λ b. client_deed w lane (only_where b (client_move (w.clients lane) own))) there ∙ ap (λ s. client_deed w lane (client_move s own)) (sym a))
-          step
-    ] refl is at
+-- what an actor prepared for its event is what the event does
+pub turns : (told : Told) (e : Event) (m : Machine) (made : Option Made) (k : Made) → IsLegal told.config told.events → IsOwn told e m made → made ≡ Some k → Turns told e k
+turns told e m made k legal is some =
+    elim (run told.config told.events) as (λ o. run told.config told.events ≡ o → IsOwnIn told.config o e m made → Turns told e k) [
+      | None ↦ λ r i. absurd i
+      | Some w ↦ λ r i. turns_at told e k w legal r (made_is told.config w e m made k i some)
+    ] refl is
 
--- ---- a node's event
+-- ---- where it makes nothing
 
--- what a node's work does to the cluster
-abbrev deed_of_node : World → ℕ → Work → Deed
-deed_of_node w number k = record { world = record w { nodes = put w.nodes number k.node }; from = Node number; sent = map node_output k.sent; notes = k.notes }
+nothing_by : (w : World) (a : Actor) (o : Option Made) → IsNone o → IsNone (deed_by w a o)
+nothing_by w a None none = refl
+nothing_by w a (Some k) none = absurd (cc)
 
-next_of_node : (config : Config) (w : World) (number : ℕ) (k : Work) → NodeNext w (world_then config w (deed_of_node w number k)) number k.node
-unfolding posted
-next_of_node config w number k =
-    record { clients = refl; nodes = refl; sent = envelopes_made (Node number) w.events (length w.commits) (map node_output k.sent); envelopes = refl }
+by_nothing : (w : World) (a : Actor) (o : Option Made) → IsNone (deed_by w a o) → IsNone o
+by_nothing w a None none = refl
+by_nothing w a (Some k) none = absurd (cc)
 
--- the event adds what was prepared to be sent, and the node is the patched one
-pub record NodeTurns (told : Told) (e : Event) (number : ℕ) (s : Seen) (p : Prepared) : Type 0 where
-  pub adds : Adds told e p.outputs.sent
-  pub next : NodeNextIn (world_of told) (world_of (with_event told e)) number (patched_node s.state p.patch)
+own_deed : (config : Config) (w : World) (e : Event) (m : Machine) (made : Option Made) → IsOwnIn config (Some w) e m made → deed config w e ≡ deed_by w (actor_of e) made
+unfolding deed
+own_deed config w e m made is =
+    ap (λ x. deed_by w (actor_of e) (machine_step config x e (envelope_named w.envelopes e))) is.0 ∙ ap (λ o. deed_by w (actor_of e) o) is.1
 
-node_turns_at : (told : Told) (e : Event) (number : ℕ) (s : Seen) (p : Prepared) (w : World) (o : Option Work) → IsLegal told.config told.events → world_of told ≡ Some w
-    → deed told.config w e ≡ node_deed w number o → IsStepOf s o p → NodeTurns told e number s p
-node_turns_at told e number s p w None legal at is step = absurd step
-node_turns_at told e number s p w (Some k) legal at is step = record {
-  adds = subst (Adds told e) (sym step.sent) (adds told e w (deed_of_node w number k) legal at is);
-  next = subst (λ x. NodeNextIn (world_of told) (world_of (with_event told e)) number x) step.node
-      (subst (λ o. NodeNextIn o (world_of (with_event told e)) number k.node) (sym at)
-      (subst (λ o. NodeNextIn (Some w) o number k.node) (sym (after told e w (deed_of_node w number k) at is))
-      (next_of_node told.config w number k)));
-}
+-- the event does nothing exactly where its actor makes nothing of it
+pub none_made : (told : Told) (e : Event) (m : Machine) (made : Option Made) → IsOwn told e m made → IsNone made → IsNone (deed_after told e)
+none_made told e m made is none =
+    elim (run told.config told.events) as (λ o. IsOwnIn told.config o e m made → IsNone (deed_in told.config o e)) [
+      | None ↦ λ i. absurd i
+      | Some w ↦ λ i. subst (λ d. IsNone d) (sym (own_deed told.config w e m made i)) (nothing_by w (actor_of e) made none)
+    ] is
 
--- what a node made ready for an event is what the event does
-pub node_turns : (told : Told) (e : Event) (number : ℕ) (own : NodeEvent) (s : Seen) (p : Prepared) → IsLegal told.config told.events → IsTrue (is_node told.config number)
-    → IsEventOfNode told e number own → IsNodeIn (world_of told) number s.state → IsStepFor s own p → NodeTurns told e number s p
-node_turns told e number own s p legal there is at step =
-    elim (run told.config told.events) as (λ o. run told.config told.events ≡ o → IsEventOfNodeIn told.config o e number own → IsNodeIn o number s.state → NodeTurns told e number s p) [
-      | None ↦ λ r i a. absurd i
-      | Some w ↦ λ r i a.
-          node_turns_at told e number s p w (node_step s.state own) legal r
-          (i.1 ∙ ap (λ b. node_deed w number (only_where b (node_step (w.nodes number) own))) there ∙ ap (λ x. node_deed w number (node_step x own)) (sym a))
-          step
-    ] refl is at
+pub made_none : (told : Told) (e : Event) (m : Machine) (made : Option Made) → IsOwn told e m made → IsNone (deed_after told e) → IsNone made
+made_none told e m made is none =
+    elim (run told.config told.events) as (λ o. IsOwnIn told.config o e m made → IsNone (deed_in told.config o e) → IsNone made) [
+      | None ↦ λ i n. absurd i
+      | Some w ↦ λ i n. by_nothing w (actor_of e) made (subst (λ d. IsNone d) (own_deed told.config w e m made i) n)
+    ] is none
+
+-- where its actor makes something of it the event is enabled
+pub some_made : (told : Told) (e : Event) (m : Machine) (made : Option Made) (k : Made) → IsOwn told e m made → made ≡ Some k → IsNone (deed_after told e) → ⊥
+some_made told e m made k is some none = let gone : IsNone (Some k) = subst (λ o. IsNone o) some (made_none told e m made is none) in absurd (cc)
+
+-- ---- the own events of clients and nodes
+
+-- a lane's client makes of the event what it makes of its own
+pub client_own : (told : Told) (e : Event) (lane : ℕ) (own : ClientEvent) (c : ClientState) → IsTrue (is_lane told.config lane) → IsEventOfClient told e lane own → IsClientIn (world_of told) lane c
+    → IsOwn told e (ClientMachine c) (client_made (client_step c own))
+client_own told e lane own c there is at =
+    elim (run told.config told.events) as (λ o. IsEventOfClientIn told.config o e lane own → IsClientIn o lane c → IsOwnIn told.config o e (ClientMachine c) (client_made (client_step c own))) [
+      | None ↦ λ i a. absurd i
+      | Some w ↦ λ i a. (
+        ap (machine_in w) i.by ∙ ap ClientMachine (sym a),
+        ap client_made (i.makes c ∙ ap (λ b. only_where b (client_step c own)) there),
+      )
+    ] is at
+
+pub node_own : (told : Told) (e : Event) (number : ℕ) (own : NodeEvent) (n : NodeState) → IsTrue (is_node told.config number) → IsEventOfNode told e number own → IsNodeIn (world_of told) number n
+    → IsOwn told e (NodeMachine n) (node_made (node_step n own))
+node_own told e number own n there is at =
+    elim (run told.config told.events) as (λ o. IsEventOfNodeIn told.config o e number own → IsNodeIn o number n → IsOwnIn told.config o e (NodeMachine n) (node_made (node_step n own))) [
+      | None ↦ λ i a. absurd i
+      | Some w ↦ λ i a. (
+        ap (machine_in w) i.by ∙ ap NodeMachine (sym a),
+        ap node_made (i.makes n ∙ ap (λ b. only_where b (node_step n own)) there),
+      )
+    ] is at
+
+-- ---- actors that are not there
+
+-- no event of a lane that is not there is enabled
+pub client_absent : (told : Told) (e : Event) (lane : ℕ) (own : ClientEvent) → is_lane told.config lane ≡ false → IsEventOfClient told e lane own → IsNone (deed_after told e)
+client_absent told e lane own gone is =
+    elim (run told.config told.events) as (λ o. IsEventOfClientIn told.config o e lane own → IsNone (deed_in told.config o e)) [
+      | None ↦ λ i. absurd i
+      | Some w ↦ λ i.
+          let c = w.clients lane in
+          let made : IsOwnIn told.config (Some w) e (ClientMachine c) None = (ap (machine_in w) i.by, ap client_made (i.makes c ∙ ap (λ b. only_where b (client_step c own)) gone)) in
+          subst (λ d. IsNone d) (sym (own_deed told.config w e (ClientMachine c) None made)) refl
+    ] is
+
+-- nor one of a node that is not there
+pub node_absent : (told : Told) (e : Event) (number : ℕ) (own : NodeEvent) → is_node told.config number ≡ false → IsEventOfNode told e number own → IsNone (deed_after told e)
+node_absent told e number own gone is =
+    elim (run told.config told.events) as (λ o. IsEventOfNodeIn told.config o e number own → IsNone (deed_in told.config o e)) [
+      | None ↦ λ i. absurd i
+      | Some w ↦ λ i.
+          let n = w.nodes number in
+          let made : IsOwnIn told.config (Some w) e (NodeMachine n) None = (ap (machine_in w) i.by, ap node_made (i.makes n ∙ ap (λ b. only_where b (node_step n own)) gone)) in
+          subst (λ d. IsNone d) (sym (own_deed told.config w e (NodeMachine n) None made)) refl
+    ] is

@@ -5,16 +5,22 @@ use Rattle.std.proofs.lemmas.List.{take-append-le, length-set}
 use Rattle.std.proofs.lemmas.Option.{same_Some}
 use Rattle.std.proofs.Math.Seq.{take-length}
 use Rattle.fal_base.specs.declared.call.Config.{Config}
+use Rattle.fal_base.specs.declared.event.Actor.TheVariants.{Client, Node}
 use Rattle.fal_base.specs.declared.event.Event.{Event}
+use Rattle.fal_client.specs.declared.event.ClientEvent.{ClientEvent}
 use Rattle.fal_client.specs.State.{ClientState}
+use Rattle.fal_node.specs.declared.event.NodeEvent.{NodeEvent}
+use Rattle.fal_node.specs.State.{NodeState}
 use Rattle.fal_node.specs.Patch.{Seen}
-use Rattle.fal_story.proofs.Lists.{put_same, put_other, tells}
+use Rattle.fal_story.proofs.Lists.Grown.{put_same, put_other, tells}
+use Rattle.fal_story.specs.Actors.{actor_of}
 use Rattle.fal_story.specs.Fresh.{came}
+use Rattle.fal_story.specs.Machines.{Machine, ClientMachine, NodeMachine}
 use Rattle.fal_story.specs.Run.{run, envelopes_at}
 use Rattle.fal_story.specs.World.{World}
 use Rattle.fal_alone.proofs.Places.{set_same, set_other}
 use Rattle.fal_alone.specs.Queues.{QueueSeen, Holds, HoldDue}
-use Rattle.fal_alone.specs.Turns.{ClientNextIn, NodeNextIn}
+use Rattle.fal_alone.specs.Turns.{NextIn, IsClientIn, IsNodeIn, IsEventOfClientIn, IsEventOfNodeIn}
 use Rattle.fal_alone.specs.Whole.{IsWhole, IsWholeAt}
 
 -- ---- lists of which one item is changed
@@ -31,6 +37,35 @@ set_all P xs k x y at here there m z is =
 -- a slice that was lent from a list comes back
 pub written : {A : Type 0} (n : ℕ) (xs ys : List A) → length ys ≡ length xs → length xs ≡ n → take n (ys ++ drop (length ys) xs) ≡ ys
 written n xs ys same is = ap (λ m. take m (ys ++ drop (length ys) xs)) (sym is ∙ sym same) ∙ take-append-le (length ys) ys _ (omega arith) ∙ take-length ys
+
+-- ---- the states of actors
+
+-- the client in a machine, and the node in one
+client_of : ClientState → Machine → ClientState
+client_of other (ClientMachine c) = c
+client_of other m = other
+
+node_of : NodeState → Machine → NodeState
+node_of other (NodeMachine n) = n
+node_of other m = other
+
+-- machines are the same where what is in them is
+pub client_is : (c d : ClientState) → ClientMachine c ≡ ClientMachine d → c ≡ d
+unfolding client_of
+client_is c d same = ap (client_of c) same
+
+pub node_is : (m n : NodeState) → NodeMachine m ≡ NodeMachine n → m ≡ n
+unfolding node_of
+node_is m n same = ap (node_of m) same
+
+-- whose event it is
+pub client_by : (config : Config) (o : Option World) (e : Event) (lane : ℕ) (own : ClientEvent) → IsEventOfClientIn config o e lane own → actor_of e ≡ Client lane
+client_by config None e lane own is = absurd is
+client_by config (Some w) e lane own is = is.by
+
+pub node_by : (config : Config) (o : Option World) (e : Event) (number : ℕ) (own : NodeEvent) → IsEventOfNodeIn config o e number own → actor_of e ≡ Node number
+node_by config None e number own is = absurd is
+node_by config (Some w) e number own is = is.by
 
 -- ---- the parts of a cluster
 
@@ -57,7 +92,7 @@ module _ (lanes : ℕ) (came : ℕ → Bool) (clients : List ClientState) (nodes
   -- ---- after an event
 
   module _ (later : ℕ → Bool) (after : List QueueSeen) where
-    next_client : (o p : Option World) (place : ℕ) (c d : ClientState) → IsWholeAt lanes o came clients nodes queues → slice_get clients place ≡ Some c → ClientNextIn o p (place + 1) d
+    next_client : (o p : Option World) (place : ℕ) (c d : ClientState) → IsWholeAt lanes o came clients nodes queues → slice_get clients place ≡ Some c → NextIn o p (Client (place + 1)) (ClientMachine d)
         → HoldDue lanes later (envelopes_at p) after → IsWholeAt lanes p later (set clients place d) nodes after
     next_client None p place c d at is next held = absurd at
     next_client (Some w) None place c d at is next held = absurd next
@@ -69,7 +104,7 @@ module _ (lanes : ℕ) (came : ℕ → Bool) (clients : List ClientState) (nodes
       queues_are = held;
     }
 
-    next_node : (o p : Option World) (number : ℕ) (n m : Seen) → IsWholeAt lanes o came clients nodes queues → slice_get nodes number ≡ Some n → NodeNextIn o p number m.state
+    next_node : (o p : Option World) (number : ℕ) (n m : Seen) → IsWholeAt lanes o came clients nodes queues → slice_get nodes number ≡ Some n → NextIn o p (Node number) (NodeMachine m.state)
         → HoldDue lanes later (envelopes_at p) after → IsWholeAt lanes p later clients (set nodes number m) after
     next_node None p number n m at is next held = absurd at
     next_node (Some w) None number n m at is next held = absurd next
@@ -104,7 +139,7 @@ module _ (config : Config) (events : List Event) (clients : List ClientState) (n
     }
 
     -- after an event of a client
-    pub client_next : (event : Event) (place : ℕ) (c d : ClientState) → slice_get clients place ≡ Some c → ClientNextIn (run config events) (run config (events ++ event ∷ [])) (place + 1) d
+    pub client_next : (event : Event) (place : ℕ) (c d : ClientState) → slice_get clients place ≡ Some c → NextIn (run config events) (run config (events ++ event ∷ [])) (Client (place + 1)) (ClientMachine d)
         → HoldDue (length config.lanes) (came (events ++ event ∷ [])) (envelopes_at (run config (events ++ event ∷ []))) after → IsWhole config (events ++ event ∷ []) (set clients place d) nodes after
     client_next event place c d is next held = record {
       clients_count = length-set clients place d ∙ whole.clients_count;
@@ -114,7 +149,7 @@ module _ (config : Config) (events : List Event) (clients : List ClientState) (n
     }
 
     -- after an event of a node
-    pub node_next : (event : Event) (number : ℕ) (n m : Seen) → slice_get nodes number ≡ Some n → NodeNextIn (run config events) (run config (events ++ event ∷ [])) number m.state
+    pub node_next : (event : Event) (number : ℕ) (n m : Seen) → slice_get nodes number ≡ Some n → NextIn (run config events) (run config (events ++ event ∷ [])) (Node number) (NodeMachine m.state)
         → HoldDue (length config.lanes) (came (events ++ event ∷ [])) (envelopes_at (run config (events ++ event ∷ []))) after → IsWhole config (events ++ event ∷ []) clients (set nodes number m) after
     node_next event number n m is next held = record {
       clients_count = whole.clients_count;
@@ -122,3 +157,19 @@ module _ (config : Config) (events : List Event) (clients : List ClientState) (n
       queues_count = same ∙ whole.queues_count;
       at = next_node (length config.lanes) (came events) clients nodes queues (came (events ++ event ∷ [])) after (run config events) (run config (events ++ event ∷ [])) number n m whole.at is next held;
     }
+
+  -- the client at a place is that of its lane
+  pub client_at : (place : ℕ) (c : ClientState) → slice_get clients place ≡ Some c → IsClientIn (run config events) (place + 1) c
+  client_at place c is =
+      elim (run config events) as (λ o. IsWholeAt (length config.lanes) o (came events) clients nodes queues → IsClientIn o (place + 1) c) [
+        | None ↦ λ at. absurd at
+        | Some w ↦ λ at. at.clients_are place c is
+      ] whole.at
+
+  -- and the node at a place that of its number
+  pub node_at : (number : ℕ) (n : Seen) → slice_get nodes number ≡ Some n → IsNodeIn (run config events) number n.state
+  node_at number n is =
+      elim (run config events) as (λ o. IsWholeAt (length config.lanes) o (came events) clients nodes queues → IsNodeIn o number n.state) [
+        | None ↦ λ at. absurd at
+        | Some w ↦ λ at. at.nodes_are number n is
+      ] whole.at

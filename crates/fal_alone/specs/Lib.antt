@@ -1,5 +1,5 @@
 pub mod Queues
-pub mod Quiet
+pub mod NodeRows
 pub mod Turns
 pub mod Whole
 pub mod Opening

@@ -1,20 +1,24 @@
 -- What one event of an actor does to the cluster.
-use Rattle.std.specs.Prelude.{◌≡◌, ◌∷◌, [], ◌++◌, ◌-◌, ℕ, List, length, Option, Some, None, slice_get}
+use Rattle.std.specs.Prelude.{◌≡◌, ◌∷◌, [], ◌++◌, ◌-◌, ℕ, List, length, Option, Some, None}
 use Rattle.fal_base.specs.declared.call.Config.{Config}
+use Rattle.fal_base.specs.declared.event.Actor.{Actor}
+use Rattle.fal_base.specs.declared.event.Actor.TheVariants.{Client, Node}
 use Rattle.fal_base.specs.declared.event.Envelope.{Envelope}
 use Rattle.fal_base.specs.declared.event.Event.{Event}
 use Rattle.fal_client.specs.declared.event.ClientEvent.{ClientEvent}
 use Rattle.fal_client.specs.declared.event.ClientEvent.TheVariants as client
 use Rattle.fal_client.specs.State.{ClientState}
-use Rattle.fal_client.specs.Step.{client_move}
+use Rattle.fal_client.specs.Step.{client_step}
 use Rattle.fal_node.specs.declared.event.NodeEvent.{NodeEvent}
 use Rattle.fal_node.specs.declared.event.NodeEvent.TheVariants as node
 use Rattle.fal_node.specs.State.{NodeState}
 use Rattle.fal_node.specs.Step.{node_step}
+use Rattle.fal_story.specs.Actors.{actor_of}
 use Rattle.fal_story.specs.Clusters.{is_lane, is_node}
-use Rattle.fal_story.specs.Run.{Deed, deed, run, only_where, client_deed, node_deed, envelopes_at}
+use Rattle.fal_story.specs.Machines.{Machine, Made, client_work, node_work, envelope_named, machine_step, only_where}
+use Rattle.fal_story.specs.Run.{Deed, deed, run, envelopes_at, machine_in, with_machine}
 use Rattle.fal_story.specs.Told.{Told}
-use Rattle.fal_story.specs.World.{World, put}
+use Rattle.fal_story.specs.World.{World}
 
 -- the world after a run
 abbrev pub world_of : Told → Option World
@@ -38,27 +42,45 @@ deed_after told event = deed_in told.config (world_of told) event
 
 -- ---- which actor's event it is
 
--- an envelope that comes was sent
-abbrev pub ClientTakes : World → ClientEvent → Type 0
-ClientTakes w (client.Get envelope) = (number : ℕ) × (slice_get w.envelopes number ≡ Some envelope)
-ClientTakes w client.Send = Unit {0}
+-- the event's actor is in this state, and makes this of the event
+abbrev pub IsOwnIn : Config → Option World → Event → Machine → Option Made → Type 0
+IsOwnIn config None event m made = ⊥
+IsOwnIn config (Some w) event m made = (machine_in w (actor_of event) ≡ m) × (machine_step config m event (envelope_named w.envelopes event) ≡ made)
 
-abbrev pub NodeTakes : World → NodeEvent → Type 0
-NodeTakes w (node.Deliver envelope) = (number : ℕ) × (slice_get w.envelopes number ≡ Some envelope)
-NodeTakes w other = Unit {0}
+abbrev pub IsOwn : Told → Event → Machine → Option Made → Type 0
+IsOwn told event m made = IsOwnIn told.config (world_of told) event m made
 
--- the event is this one of the lane's client
+-- what comes by an own event is the envelope that the event names
+abbrev pub ClientGets : ClientEvent → Option Envelope → Type 0
+ClientGets (client.Get envelope) named = named ≡ Some envelope
+ClientGets client.Send named = Unit {0}
+
+abbrev pub NodeGets : NodeEvent → Option Envelope → Type 0
+NodeGets (node.Deliver envelope) named = named ≡ Some envelope
+NodeGets other named = Unit {0}
+
+-- in this world the event is this own one of a lane's client: each client makes of the event what it makes of that one
+pub record IsEventOfClientAt (config : Config) (w : World) (event : Event) (lane : ℕ) (own : ClientEvent) : Type 0 where
+  pub by : actor_of event ≡ Client lane
+  pub gets : ClientGets own (envelope_named w.envelopes event)
+  pub makes : (c : ClientState) → client_work config c event (envelope_named w.envelopes event) ≡ only_where (is_lane config lane) (client_step c own)
+
 abbrev pub IsEventOfClientIn : Config → Option World → Event → ℕ → ClientEvent → Type 0
 IsEventOfClientIn config None event lane own = ⊥
-IsEventOfClientIn config (Some w) event lane own = ClientTakes w own × (deed config w event ≡ client_deed w lane (only_where (is_lane config lane) (client_move (w.clients lane) own)))
+IsEventOfClientIn config (Some w) event lane own = IsEventOfClientAt config w event lane own
 
 abbrev pub IsEventOfClient : Told → Event → ℕ → ClientEvent → Type 0
 IsEventOfClient told event lane own = IsEventOfClientIn told.config (world_of told) event lane own
 
--- the event is this one of the node
+-- in this world the event is this own one of a node
+pub record IsEventOfNodeAt (config : Config) (w : World) (event : Event) (number : ℕ) (own : NodeEvent) : Type 0 where
+  pub by : actor_of event ≡ Node number
+  pub gets : NodeGets own (envelope_named w.envelopes event)
+  pub makes : (n : NodeState) → node_work config n event (envelope_named w.envelopes event) ≡ only_where (is_node config number) (node_step n own)
+
 abbrev pub IsEventOfNodeIn : Config → Option World → Event → ℕ → NodeEvent → Type 0
 IsEventOfNodeIn config None event number own = ⊥
-IsEventOfNodeIn config (Some w) event number own = NodeTakes w own × (deed config w event ≡ node_deed w number (only_where (is_node config number) (node_step (w.nodes number) own)))
+IsEventOfNodeIn config (Some w) event number own = IsEventOfNodeAt config w event number own
 
 abbrev pub IsEventOfNode : Told → Event → ℕ → NodeEvent → Type 0
 IsEventOfNode told event number own = IsEventOfNodeIn told.config (world_of told) event number own
@@ -77,29 +99,18 @@ IsNodeIn (Some w) number n = n ≡ w.nodes number
 
 -- ---- from one world to the next
 
--- the lane's client is this one, and envelopes are sent
-pub record ClientNext (w u : World) (lane : ℕ) (c : ClientState) : Type 0 where
-  pub clients : u.clients ≡ put w.clients lane c
-  pub nodes : u.nodes ≡ w.nodes
+-- the actor is in this state, the others stay, and envelopes are sent
+pub record Next (w u : World) (actor : Actor) (m : Machine) : Type 0 where
+  pub clients : u.clients ≡ (with_machine w actor m).clients
+  pub nodes : u.nodes ≡ (with_machine w actor m).nodes
+  pub coord : u.coord ≡ (with_machine w actor m).coord
   pub sent : List Envelope
   pub envelopes : u.envelopes ≡ w.envelopes ++ sent
 
-abbrev pub ClientNextIn : Option World → Option World → ℕ → ClientState → Type 0
-ClientNextIn (Some w) (Some u) lane c = ClientNext w u lane c
-ClientNextIn (Some w) None lane c = ⊥
-ClientNextIn None u lane c = ⊥
-
--- the node is this one, and envelopes are sent
-pub record NodeNext (w u : World) (number : ℕ) (n : NodeState) : Type 0 where
-  pub clients : u.clients ≡ w.clients
-  pub nodes : u.nodes ≡ put w.nodes number n
-  pub sent : List Envelope
-  pub envelopes : u.envelopes ≡ w.envelopes ++ sent
-
-abbrev pub NodeNextIn : Option World → Option World → ℕ → NodeState → Type 0
-NodeNextIn (Some w) (Some u) number n = NodeNext w u number n
-NodeNextIn (Some w) None number n = ⊥
-NodeNextIn None u number n = ⊥
+abbrev pub NextIn : Option World → Option World → Actor → Machine → Type 0
+NextIn (Some w) (Some u) actor m = Next w u actor m
+NextIn (Some w) None actor m = ⊥
+NextIn None u actor m = ⊥
 
 -- how many envelopes an event sends
 abbrev pub sent_by : Told → Event → ℕ

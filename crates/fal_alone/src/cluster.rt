@@ -6,7 +6,7 @@ ghost use Rattle.fal_story.specs.Clusters.{IsCluster};
 ghost use Rattle.fal_alone.specs.Queues.{WasSentTo};
 ghost use Rattle.fal_alone.specs.Turns.{envelopes_of, with_event, deed_after, IsEventOfClient, IsEventOfNode};
 
-use crate::follow::{Counts, client_event, node_event};
+use crate::follow::{Counts, follow};
 use crate::opening::{clients_of, nodes_of, queues_of};
 use crate::queue::Queue;
 use fal_base::{Actor, Config, Duplicate, Envelope, Event, OutOfMemory, Refuse};
@@ -98,6 +98,7 @@ impl Cluster {
         ensures err { OnErr result (self.new ≡ self.old) }
         ensures refused { IsErrOf result refuse.NotEnabled ↔ IsNone (deed_after self.old event) }
     {
+        self.book.legal();
         let counts = Counts {
             lanes: self.clients.len(),
             nodes: self.nodes.len(),
@@ -107,13 +108,12 @@ impl Cluster {
             return Err(Refuse::NotEnabled);
         }
         let client = &mut self.clients[place - 1];
-        client_event(
+        follow(
             &mut self.book,
             client,
             self.queues.as_mut_slice(),
             counts,
             event,
-            lane,
             &own,
         )?;
         Ok(())
@@ -126,6 +126,7 @@ impl Cluster {
         ensures err { OnErr result (self.new ≡ self.old) }
         ensures refused { IsErrOf result refuse.NotEnabled ↔ IsNone (deed_after self.old event) }
     {
+        self.book.legal();
         let counts = Counts {
             lanes: self.clients.len(),
             nodes: self.nodes.len(),
@@ -135,13 +136,12 @@ impl Cluster {
             return Err(Refuse::NotEnabled);
         }
         let node = &mut self.nodes[place];
-        node_event(
+        follow(
             &mut self.book,
             node,
             self.queues.as_mut_slice(),
             counts,
             event,
-            number,
             &own,
         )?;
         Ok(())

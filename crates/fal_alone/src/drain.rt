@@ -12,7 +12,7 @@ impl Cluster {
     /// Takes the event that `enabled` gives, again and again, until there is none. Then the cluster is quiet, and each call that was sent is
     /// answered. It returns, since each turn adds an event to the book, and a full book answers want of memory. With want of memory the run
     /// goes on from the one before.
-    #[tactic(auto, using(crate::proofs::Drains::drains_not_yet, crate::proofs::Drains::drains_on, crate::proofs::Drains::drains_extend, crate::proofs::Drains::drains_to, crate::proofs::FirstEnabled::first_enabled, fal_story::proofs::Quiet::none_is_quiet, fal_story::proofs::Answered::none_is_answered))]
+    #[tactic(auto, using(crate::proofs::Drains::drains_not_yet, crate::proofs::Drains::drains_on, crate::proofs::Drains::drains_extend, crate::proofs::Drains::drains_to, crate::proofs::FirstEnabled::first_enabled, fal_story::proofs::Drain::Quiet::none_is_quiet, fal_story::proofs::Drain::Answered::none_is_answered))]
     pub fn drain(&mut self) -> Result<(), OutOfMemory>
         ensures extends { Extends self.old self.new }
         ensures drained { OnOk result (DrainsTo self.old self.new) }

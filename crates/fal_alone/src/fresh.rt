@@ -2,7 +2,7 @@
 ghost use Rattle.std.specs.Prelude.{◌≡◌, ◌+◌, ◌++◌, ◌≤◌, IfOk, OnOk, is_some, length, map, slice_get};
 ghost use Rattle.fal_base.specs.declared.event.Event.TheVariants as event_seen;
 ghost use Rattle.fal_client.specs.declared.event.ClientEvent.TheVariants as client_seen;
-ghost use Rattle.fal_client.specs.Step.{client_move};
+ghost use Rattle.fal_client.specs.Step.{client_step};
 ghost use Rattle.fal_node.specs.Due.{dues};
 ghost use Rattle.fal_story.specs.Fresh.{first_reply, fresh_at, came, event_of as event_at};
 ghost use Rattle.fal_alone.specs.Shown.{gets, node_events, all_gets, all_node_events, sends, all_lane_events};
@@ -12,24 +12,23 @@ use crate::cluster::Cluster;
 use crate::queue::Queue;
 use fal_base::{Event, OutOfMemory};
 use fal_client::Client;
-use fal_node::{Node, NodeEvent};
+use fal_node::{Node, OwnEvent};
 
 // A node's own event, as an event of the run.
-fn event_of(number: u8, own: NodeEvent) -> Event
+fn event_of(number: u8, own: OwnEvent) -> Event
     ensures { result ≡ event_at number own }
 {
     match own {
-        NodeEvent::Deliver(_envelope) => Event::Gather { node: number },
-        NodeEvent::Gather => Event::Gather { node: number },
-        NodeEvent::Exec(batch) => Event::Exec {
+        OwnEvent::Gather => Event::Gather { node: number },
+        OwnEvent::Exec(batch) => Event::Exec {
             node: number,
             batch,
         },
-        NodeEvent::Release(batch) => Event::Release {
+        OwnEvent::Release(batch) => Event::Release {
             node: number,
             batch,
         },
-        NodeEvent::Serve(item) => Event::Serve { node: number, item },
+        OwnEvent::Serve(item) => Event::Serve { node: number, item },
     }
 }
 
@@ -48,7 +47,7 @@ fn first_at_node(number: u8, queue: &Queue, node: &Node) -> Option<Event>
     match queue.first() {
         Some(env) => Some(Event::Deliver { node: number, env }),
         None => {
-            let own = node.due(0)?;
+            let own = node.first_due()?;
             Some(event_of(number, own))
         }
     }
@@ -98,7 +97,7 @@ fn first_of_nodes(number: u8, queues: &[Queue], nodes: &[Node]) -> Option<Event>
 
 // Whether a lane has a Send: no call is under way, and one is left.
 fn can_send(client: &Client) -> bool
-    ensures { result ≡ is_some (client_move client.now client_seen.Send) }
+    ensures { result ≡ is_some (client_step client.now client_seen.Send) }
 {
     client.idle() && client.left() > 0
 }
@@ -141,10 +140,8 @@ fn push_deliveries(events: &mut Vec<Event>, number: u8, queue: &Queue) -> Result
 fn push_dues(events: &mut Vec<Event>, number: u8, node: &Node) -> Result<(), OutOfMemory>
     ensures { OnOk result (events.new.items ≡ events.old.items ++ map (λ own. event_at number own) (dues node.now.state)) }
 {
-    let mut at = 0;
-    while let Some(own) = node.due(at) {
+    for own in node.dues()? {
         events.push(event_of(number, own))?;
-        at += 1;
     }
     Ok(())
 }

@@ -11,7 +11,9 @@ mod opening;
 mod queue;
 mod queues;
 mod quiet;
+mod role;
 mod turn;
 
 pub use cluster::Cluster;
 pub use law::quiet_is_tree;
+pub use role::Role;

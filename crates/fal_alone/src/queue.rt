@@ -1,6 +1,6 @@
 // The numbers of the envelopes that an actor has yet to take, rising.
 ghost use Rattle.std.specs.Prelude.{◌≡◌, ◌==◌, length, ◌<◌, ◌≤◌, ◌+◌, ◌++◌, ◌∷◌, [], OnOk, slice_get, IfSome, IfNone, ℕ, Some};
-ghost use Rattle.fal_story.proofs.Dues.{without, Rises};
+ghost use Rattle.fal_story.proofs.Drain.Dues.{without, Rises};
 
 use fal_base::OutOfMemory;
 use std::alloc::Global;

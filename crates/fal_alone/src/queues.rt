@@ -4,7 +4,7 @@ ghost use Rattle.fal_base.specs.declared.event.Actor.{Actor as ActorSeen};
 ghost use Rattle.fal_base.specs.declared.event.Envelope.{Envelope as EnvelopeSeen};
 ghost use Rattle.fal_story.specs.Fresh.{came, came_with};
 ghost use Rattle.fal_story.specs.World.{put};
-ghost use Rattle.fal_story.proofs.Dues.{Rises};
+ghost use Rattle.fal_story.proofs.Drain.Dues.{Rises};
 ghost use Rattle.fal_alone.specs.Queues.{QueueSeen, place_of, given, Holds, HaveRoom, HoldDue, WasSentTo, TakesItsOwn};
 ghost use Rattle.fal_alone.specs.Turns.{envelopes_of};
 

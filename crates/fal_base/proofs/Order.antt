@@ -1,5 +1,5 @@
 -- The order of keys is total, and changes of the tree keep it.
-use Rattle.std.proofs.Common.{◌≡◌, Bool, true, false, refl}
+use Rattle.std.proofs.Common.{◌≡◌, ℕ, Bool, true, false, Some, None, refl}
 use Rattle.std.specs.Prelude.{T, IsTrue}
 use Rattle.std.specs.declared.cmp.Ordering.TheVariants.{Less, Equal, Greater}
 use Rattle.std.specs.Ordering.{nat_cmp, ordering_then}
@@ -8,9 +8,14 @@ use Rattle.std.specs.FinMap.{nat_cmp-IsAntisymmetric, slice_cmp-IsAntisymmetric}
 use Rattle.std.specs.Cmp.{IsTotalOrder, then_total, on_total, nat_cmp_total}
 use Rattle.std.specs.Cmp.Lexicographic.{nat_list_cmp_total}
 use Rattle.std.specs.FinMap.Entries.{is_sorted-put, is_sorted-where_key}
+use Rattle.fal_base.specs.declared.call.Cred.{Cred}
 use Rattle.fal_base.specs.declared.inode.Inode.{Inode}
+use Rattle.fal_base.specs.declared.inode.Kind.TheVariants.{Dir, File}
 use Rattle.fal_base.specs.declared.key.Key.{Key}
-use Rattle.fal_base.specs.Tree.{Tree, key_cmp, with_row, without_row, IsInOrder}
+use Rattle.fal_base.specs.declared.op.Op.{Op}
+use Rattle.fal_base.specs.declared.op.Op.TheVariants as op
+use Rattle.fal_base.specs.Change.{change, last_key, move, new_row, update}
+use Rattle.fal_base.specs.Tree.{Tree, key_cmp, row_at, with_row, without_row, IsInOrder}
 
 pub key_cmp_total : IsTotalOrder key_cmp
 unfolding key_cmp
@@ -39,3 +44,31 @@ in_order_with tree key inode sorted = told _ (is_sorted-put key_cmp key_cmp_tota
 
 pub in_order_without : (tree : Tree) (key : Key) → IsInOrder tree → IsInOrder (without_row tree key)
 in_order_without tree key sorted = told _ (is_sorted-where_key key_cmp _ tree (held _ sorted))
+
+in_order_update : (tree : Tree) (key : Key) (f : Inode → Inode) → IsInOrder tree → IsInOrder (update tree key f)
+in_order_update tree key f sorted =
+    elim (row_at tree key) as (λ row. IsInOrder (elim row [ None ↦ tree | Some inode ↦ with_row tree key (f inode) ])) [
+      | None ↦ sorted
+      | Some inode ↦ in_order_with tree key (f inode) sorted
+    ]
+
+in_order_move : (tree : Tree) (from to : Key) → IsInOrder tree → IsInOrder (move tree from to)
+in_order_move tree from to sorted =
+    elim (row_at tree from) as (λ row. IsInOrder (elim row [ None ↦ tree | Some inode ↦ with_row (without_row tree from) to inode ])) [
+      | None ↦ sorted
+      | Some inode ↦ in_order_with (without_row tree from) to inode (in_order_without tree from sorted)
+    ]
+
+pub in_order_change : (tree : Tree) (cred : Cred) (call : Op) (ino : ℕ) → IsInOrder tree → IsInOrder (change tree cred call ino)
+in_order_change tree cred (op.Mkdir path mode) ino sorted = in_order_with tree (last_key tree cred path) (new_row cred Dir mode ino) sorted
+in_order_change tree cred (op.Create path mode) ino sorted = in_order_with tree (last_key tree cred path) (new_row cred File mode ino) sorted
+in_order_change tree cred (op.Stat path) ino sorted = sorted
+in_order_change tree cred (op.Access path want) ino sorted = sorted
+in_order_change tree cred (op.Chmod path mode) ino sorted = in_order_update tree (last_key tree cred path) _ sorted
+in_order_change tree cred (op.Chown path uid gid) ino sorted = in_order_update tree (last_key tree cred path) _ sorted
+in_order_change tree cred (op.Truncate path size) ino sorted = in_order_update tree (last_key tree cred path) _ sorted
+in_order_change tree cred (op.Unlink path) ino sorted = in_order_without tree (last_key tree cred path) sorted
+in_order_change tree cred (op.Rmdir path) ino sorted = in_order_without tree (last_key tree cred path) sorted
+in_order_change tree cred (op.Rename old new) ino sorted = in_order_move tree (last_key tree cred old) (last_key tree cred new) sorted
+in_order_change tree cred (op.List path) ino sorted = sorted
+in_order_change tree cred (op.Place name rule) ino sorted = sorted

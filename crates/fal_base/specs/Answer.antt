@@ -1,6 +1,7 @@
--- What the plain tree answers to a call. A bad path comes first, then EBUSY on the root, then the walk, then the checks in their order.
--- The answers are those of POSIX.1-2017, XSH: mkdir, open (O_CREAT with O_EXCL), stat, access, chmod, chown, truncate, unlink, rmdir,
--- rename and readdir, in this service's profile: unlink of a directory is EPERM, chown is for uid 0 alone, and uid 0 passes every check.
+-- What the plain tree answers to a call. Each errno is one that POSIX.1-2017, XSH, gives for its cause at mkdir, open (O_CREAT with O_EXCL),
+-- stat, access, chmod, chown, truncate, unlink, rmdir, rename and readdir. POSIX leaves open which of several causes is answered; here a bad
+-- path comes first, then EBUSY on the root, then the walk, then the checks in their order. This service's own choices are that unlink of a
+-- directory is EPERM, chown is for uid 0 alone, and uid 0 passes every check.
 use Rattle.std.specs.Prelude.{ℕ, Bool, true, not, ◌&&◌, ◌||◌, List, [], ◌∷◌, length, Option, Some, None, if◌then◌else◌, ◌==◌, nat_lt, is_some}
 use Rattle.std.specs.List.{list_any}
 use Rattle.fal_base.specs.declared.call.Cred.{Cred}

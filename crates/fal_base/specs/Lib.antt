@@ -6,7 +6,9 @@ pub mod History
 pub mod Linear
 pub mod Listing
 pub mod Maps
+pub mod Marks
 pub mod Names
+pub mod OpPaths
 pub mod PathArgs
 pub mod Paths
 pub mod Permission

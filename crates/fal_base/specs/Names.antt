@@ -1,5 +1,5 @@
 -- What bytes mean as a name: one component of a path (POSIX.1-2017, XBD 3.170 and NAME_MAX), and no `.` or `..`.
-use Rattle.std.specs.Prelude.{ℕ, Bool, false, List, [], ◌∷◌, length, if◌then◌else◌, ◌==◌, nat_lt, Result, Ok, Err}
+use Rattle.std.specs.Prelude.{ℕ, Bool, false, List, [], ◌∷◌, length, if◌then◌else◌, ◌==◌, nat_lt, Result, Ok, Err, is_ok}
 use Rattle.std.specs.List.{list_any}
 use Rattle.fal_base.specs.declared.name.NameFault.{NameFault}
 use Rattle.fal_base.specs.declared.name.NameFault.TheVariants.{Empty, TooLong, Slash, ZeroByte, Dot, OutOfMemory}
@@ -15,9 +15,13 @@ has_fault Dot bytes = is_dot bytes
 has_fault OutOfMemory bytes = false
 
 -- the first of these faults that the bytes have, or else the bytes
-abbrev pub judged : List NameFault → List ℕ → Result (List ℕ) NameFault
-judged [] bytes = Ok bytes
-judged (fault ∷ faults) bytes = if has_fault fault bytes then Err fault else judged faults bytes
+abbrev pub name_unless : List NameFault → List ℕ → Result (List ℕ) NameFault
+name_unless [] bytes = Ok bytes
+name_unless (fault ∷ faults) bytes = if has_fault fault bytes then Err fault else name_unless faults bytes
 
 abbrev pub name_of : List ℕ → Result (List ℕ) NameFault
-name_of bytes = judged (Empty ∷ TooLong ∷ Slash ∷ ZeroByte ∷ Dot ∷ []) bytes
+name_of bytes = name_unless (Empty ∷ TooLong ∷ Slash ∷ ZeroByte ∷ Dot ∷ []) bytes
+
+-- whether the bytes are a name
+unfoldable pub is_name : List ℕ → Bool
+is_name bytes = is_ok (name_of bytes)

@@ -17,8 +17,9 @@ use Rattle.fal_base.specs.declared.rule.Rule.TheVariants as rule
 use Rattle.fal_base.specs.Answer.{checked}
 use Rattle.fal_base.specs.Transcript.{call_of, at, placed}
 
-abbrev pub is_among : List ℕ → List (List ℕ) → Bool
-is_among name names = list_any (λ other. pointwise ◌==◌ other name) names
+-- whether the name is one of these
+abbrev pub is_ruled : List ℕ → List (List ℕ) → Bool
+is_ruled name names = list_any (λ other. pointwise ◌==◌ other name) names
 
 -- the name that a call places
 abbrev pub placed_name : Op → List (List ℕ)
@@ -32,7 +33,7 @@ call_name (Some call) = placed_name call.op
 -- one more name that has a rule
 abbrev pub with_name : List (List ℕ) → List (List ℕ) → List (List ℕ)
 with_name names [] = names
-with_name names (name ∷ more) = if is_among name names then names else names ++ name ∷ []
+with_name names (name ∷ more) = if is_ruled name names then names else names ++ name ∷ []
 
 -- the names that have a rule after these entries
 abbrev pub names_ruled : Config → List (List ℕ) → List Entry → List (List ℕ)
@@ -55,7 +56,7 @@ is_outside (rule.Node n) nodes = not (nat_lt n nodes)
 
 -- there are 1,024 rules, and this name has none
 abbrev pub is_full : List (List ℕ) → List ℕ → Bool
-is_full names name = (length names == 1024) && not (is_among name names)
+is_full names name = (length names == 1024) && not (is_ruled name names)
 
 -- the answer where these names have a rule
 abbrev pub place_answer : ℕ → List (List ℕ) → Cred → List ℕ → Rule → Reply
@@ -78,7 +79,7 @@ pub record ArePlaced (config : Config) (entries : List Entry) : Type 0 where
   -- there was room for the name
   pub room : (j lane seq version : ℕ) (call : Call) (name : List ℕ) (rule : Rule) → slice_get entries j ≡ Some (Placed lane seq version)
       → call_of config lane seq ≡ Some call → call.op ≡ op.Place name rule
-      → (is_among name (ruled_before config entries j) ≡ true) ⊎ (length (ruled_before config entries j) < 1024)
+      → (is_ruled name (ruled_before config entries j) ≡ true) ⊎ (length (ruled_before config entries j) < 1024)
   pub answers : (j lane seq k : ℕ) (reply : Reply) (call : Call) (name : List ℕ) (rule : Rule) → slice_get entries j ≡ Some (Answered lane seq k reply)
       → call_of config lane seq ≡ Some call → call.op ≡ op.Place name rule → IsPlaceAnswer config entries j lane seq k reply call.cred name rule
 

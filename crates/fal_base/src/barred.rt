@@ -4,8 +4,11 @@ use crate::name::Name;
 /// The names that a node keeps shut while rows move: none, one, or all of them.
 #[derive(Debug, Drop)]
 pub enum Barred {
+    /// No name.
     Nothing,
+    /// This one.
     One(Name),
+    /// Every name but the empty one, which the root's key alone has.
     All,
 }
 

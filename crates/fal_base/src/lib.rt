@@ -1,6 +1,7 @@
 //! The words of the service: names, paths, calls, replies, events and entries, and the definitions that every promise rests on.
 //!
-//! This crate knows one tree and lists of entries. It knows no node, message, batch or lock.
+//! Events, envelopes, rules and marks are words that the actors of a cluster share. The definitions in `specs/` know one tree and lists of entries
+//! alone: no message, node, batch or lock stands in them.
 #![tactic(auto)]
 
 mod barred;
@@ -11,6 +12,9 @@ mod inode;
 mod items;
 mod key;
 mod key_map;
+mod law;
+mod mark;
+mod marks;
 mod memory;
 mod name;
 mod op;
@@ -20,8 +24,6 @@ mod refuse;
 mod reply;
 mod row;
 mod rule;
-#[cfg(test)]
-mod tests;
 
 pub use barred::Barred;
 pub use call::{Call, CallId, CallRec, Config, Cred};
@@ -31,6 +33,9 @@ pub use inode::{Dentry, Inode, Kind};
 pub use items::Items;
 pub use key::Key;
 pub use key_map::KeyMap;
+pub use law::trees_are_well_formed;
+pub use mark::Mark;
+pub use marks::{last_mark, put_mark};
 pub use memory::{Duplicate, OutOfMemory};
 pub use name::{Name, NameFault};
 pub use op::Op;

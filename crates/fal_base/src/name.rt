@@ -1,4 +1,4 @@
-ghost use Rattle.std.specs.Prelude.{◌≡◌, ◌≤◌, [], length, IfOk, Ok};
+ghost use Rattle.std.specs.Prelude.{◌≡◌, ◌≤◌, [], length, IfOk, Ok, IsTrue};
 ghost use Rattle.std.specs.Prelude.{◌==◌};
 ghost use Rattle.std.proofs.Common.{rules};
 ghost use Rattle.std.specs.Cmp.{partial_order_from_own_ties};
@@ -6,7 +6,7 @@ ghost use Rattle.std.specs.Cmp.Rules.{comparing};
 ghost use Rattle.std.specs.Cmp.Lexicographic.{pointwise, slice_cmp};
 ghost use Rattle.std.specs.Ordering.{nat_cmp, as_partial_cmp};
 ghost use Rattle.fal_base.specs.Unless.{UnlessMemory};
-ghost use Rattle.fal_base.specs.Names.{name_of};
+ghost use Rattle.fal_base.specs.Names.{name_of, is_name};
 ghost use Rattle.fal_base.specs.Paths.{is_dot as is_dot_name};
 
 use crate::memory::{Duplicate, OutOfMemory};
@@ -17,11 +17,17 @@ use std::marker::Model;
 /// Why bytes are no name, or want of memory.
 #[derive(Clone, Copy, Debug, PartialEq, Eq)]
 pub enum NameFault {
+    /// There are none.
     Empty,
+    /// There are more than 255.
     TooLong,
+    /// One of them is a slash.
     Slash,
+    /// One of them is zero.
     ZeroByte,
+    /// They are `.` or `..`.
     Dot,
+    /// Memory was refused.
     OutOfMemory,
 }
 
@@ -70,8 +76,10 @@ pub fn is_dot(bytes: &[u8]) -> bool
 impl Name {
     /// The name with these bytes. Refused with the first that holds of `Empty`, `TooLong` (more than 255 bytes), `Slash`, `ZeroByte` and
     /// `Dot` (`.` or `..`).
+    #[tactic(auto, unfolding(crate::specs::Names::is_name))]
     pub fn read(alloc: Global, bytes: &[u8]) -> Result<Name, NameFault>
-        ensures { UnlessMemory NameFault.OutOfMemory result (name_of bytes.now) }
+        ensures name { UnlessMemory NameFault.OutOfMemory result (name_of bytes.now) }
+        ensures good { IfOk result (λ name. IsTrue (is_name name)) }
     {
         if bytes.is_empty() {
             return Err(NameFault::Empty);

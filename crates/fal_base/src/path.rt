@@ -1,10 +1,16 @@
-ghost use Rattle.std.specs.Prelude.{◌≡◌, IfOk, Ok, false};
+ghost use Rattle.std.specs.Prelude.{◌≡◌, ◌≤◌, IfOk, Ok, IsTrue, false};
+ghost use Rattle.std.specs.List.{list_all};
+ghost use Rattle.std.specs.Option.{option_copied};
+ghost use Rattle.fal_base.specs.Answer.{errno_of};
+ghost use Rattle.fal_base.specs.OpPaths.{good_names, fault_of};
 ghost use Rattle.fal_base.specs.Unless.{UnlessMemory};
-ghost use Rattle.fal_base.specs.Paths.{path_of, breaks, components};
+ghost use Rattle.fal_base.specs.Names.{is_name};
+ghost use Rattle.fal_base.specs.Paths.{path_of, path_bytes, breaks, components};
 ghost use Rattle.fal_base.specs.PathArgs.{path_arg_of};
 
 use crate::memory::{Duplicate, OutOfMemory};
 use crate::name::{self, Name};
+use crate::reply::Errno;
 use crate::{Bytes, NameList};
 use std::alloc::Global;
 use std::marker::Model;
@@ -12,12 +18,33 @@ use std::marker::Model;
 /// Why bytes are no path: the lowest rule that they break, or want of memory.
 #[derive(Clone, Copy, Debug, PartialEq, Eq)]
 pub enum PathFault {
+    /// They are empty or do not begin with a slash.
     Relative,
+    /// There are more than 4,095.
     TooLong,
+    /// A name has more than 255.
     NameTooLong,
+    /// A name is `.` or `..`.
     Dot,
+    /// One of them is zero.
     ZeroByte,
+    /// Memory was refused.
     OutOfMemory,
+}
+
+impl PathFault {
+    /// What a call with such a path is answered: ENAMETOOLONG where the path or a name is too long, and else EINVAL. Want of memory is no
+    /// rule, and no call's path has it.
+    pub fn errno(self) -> Errno
+        ensures { result ≡ errno_of self }
+    {
+        match self {
+            PathFault::TooLong | PathFault::NameTooLong => Errno::Enametoolong,
+            PathFault::Relative | PathFault::Dot | PathFault::ZeroByte | PathFault::OutOfMemory => {
+                Errno::Einval
+            }
+        }
+    }
 }
 
 /// The names of a path, from the root on. The path without names is the root.
@@ -35,8 +62,10 @@ impl Model for Path {
 }
 
 impl Path {
-    /// The path of these names. Takes no memory.
+    /// The path of these names: each follows the rules for names, and with a slash before each they have at most 4,095 bytes. Takes no memory.
     pub fn from_names(names: NameList) -> Path
+        requires named { IsTrue (list_all is_name names) }
+        requires short { path_bytes names ≤ 4095 }
         ensures { result ≡ names }
     {
         Path { names }
@@ -122,7 +151,9 @@ impl Duplicate for Path {
 /// A path as a call gives it: good, or the rule that its bytes break beside those bytes.
 #[derive(Debug, Drop)]
 pub enum PathArg {
+    /// Its bytes break no rule.
     Good(Path),
+    /// Its bytes, and the lowest rule that they break. It never is want of memory.
     Bad { fault: PathFault, raw: Bytes },
 }
 
@@ -151,6 +182,28 @@ impl PathArg {
                 fault,
                 raw: Bytes::from_items(Vec::from_slice(alloc, bytes)?),
             }),
+        }
+    }
+}
+
+impl PathArg {
+    /// The path, where it is good.
+    pub fn good(&self) -> Option<&Path>
+        ensures { option_copied result ≡ good_names self.now }
+    {
+        match self {
+            PathArg::Good(path) => Some(path),
+            PathArg::Bad { .. } => None,
+        }
+    }
+
+    /// The rule that it breaks, where it is bad.
+    pub fn fault(&self) -> Option<PathFault>
+        ensures { result ≡ fault_of self.now }
+    {
+        match self {
+            PathArg::Good(_) => None,
+            PathArg::Bad { fault, .. } => Some(*fault),
         }
     }
 }

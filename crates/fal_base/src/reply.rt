@@ -21,9 +21,13 @@ pub enum Errno {
 /// The answer to a call.
 #[derive(Debug, Drop, PartialEq)]
 pub enum Reply {
+    /// Done, or granted.
     Fine,
+    /// Refused.
     Fail(Errno),
+    /// What a stat tells.
     Stat(Inode),
+    /// What a list tells: the names in the directory, ascending by bytes.
     Names(NameList),
 }
 

@@ -4,8 +4,11 @@ use crate::name::Name;
 /// Where the keys with a name live: by the name's hash, by the hash of parent and name, or at one node.
 #[derive(Clone, Copy, Debug, PartialEq, Eq)]
 pub enum Rule {
+    /// By the name's hash, as every name without a rule.
     Hash,
+    /// By the hash of the parent's number and the name.
     ByParent,
+    /// At the node with this number.
     Node(u16),
 }
 

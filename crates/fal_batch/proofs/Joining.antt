@@ -6,7 +6,8 @@ use Rattle.fal_base.specs.declared.key.Key.{Key}
 use Rattle.fal_dentry.specs.Walk.{ReplicaWalk, Shut, Missing, Stop, Ready, is_among}
 use Rattle.fal_dentry.specs.TreeWalk.{last_name, last_key}
 use Rattle.fal_place.specs.Placement.{owner, route}
-use Rattle.fal_batch.specs.Fate.{Setting, Fate, Skips, Leaves, Joins, fate, fate_by, fate_at, fate_walked, is_blocked, is_elsewhere, last_of, op_names, walk_of, walked_keys, away_to, goes_by_parent}
+use Rattle.fal_batch.specs.Fate.{Setting, Fate, Skips, Leaves, Joins, fate, fate_by, fate_at, fate_walked, is_blocked, is_elsewhere, last_of, walk_of, walked_keys, away_to, goes_by_parent}
+use Rattle.fal_base.specs.OpPaths.{op_names}
 use Rattle.fal_batch.specs.Plan.{path_keys}
 
 module _ (denied : Bool) (parent : Option Dentry) (last : Key) (keys : List Key) where

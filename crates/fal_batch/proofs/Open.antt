@@ -17,7 +17,8 @@ use Rattle.fal_locks.specs.Keys.{has_key}
 use Rattle.fal_locks.specs.Locks.{LockTable, shut_keys, first_shut}
 use Rattle.fal_place.specs.Placement.{owner, route}
 use Rattle.fal_wait.specs.declared.waiting_call.WaitingCall.{WaitingCall}
-use Rattle.fal_batch.specs.Fate.{Setting, Fate, Skips, Leaves, Waits, Joins, fate, fate_by, fate_at, fate_walked, is_blocked, is_elsewhere, last_of, op_names, walk_of, walked_keys, away_to, goes_by_parent}
+use Rattle.fal_batch.specs.Fate.{Setting, Fate, Skips, Leaves, Waits, Joins, fate, fate_by, fate_at, fate_walked, is_blocked, is_elsewhere, last_of, walk_of, walked_keys, away_to, goes_by_parent}
+use Rattle.fal_base.specs.OpPaths.{op_names}
 use Rattle.fal_batch.specs.Keys.{with_key, with_keys}
 use Rattle.fal_batch.specs.Plan.{Planning, with_away, with_wait, with_planned, after_fate, plan_one, plan_calls}
 use Rattle.fal_batch.proofs.Truth.{neither, neither_first, neither_second}

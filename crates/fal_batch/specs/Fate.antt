@@ -5,12 +5,9 @@ use Rattle.fal_base.specs.declared.barred.Barred.TheVariants as barred
 use Rattle.fal_base.specs.declared.call.CallRec.{CallRec}
 use Rattle.fal_base.specs.declared.inode.Dentry.{Dentry}
 use Rattle.fal_base.specs.declared.key.Key.{Key}
-use Rattle.fal_base.specs.declared.op.Op.{Op}
-use Rattle.fal_base.specs.declared.op.Op.TheVariants as op
-use Rattle.fal_base.specs.declared.path.PathArg.{PathArg}
-use Rattle.fal_base.specs.declared.path.PathArg.TheVariants.{Good, Bad}
 use Rattle.fal_base.specs.declared.rule.Rule.{Rule}
 use Rattle.fal_base.specs.declared.rule.Rule.TheVariants.{Hash, ByParent, Node}
+use Rattle.fal_base.specs.OpPaths.{op_names}
 use Rattle.fal_base.specs.Tree.{root_key}
 use Rattle.fal_dentry.specs.Walk.{Dentries, ReplicaWalk, Shut, Missing, Stop, Ready, is_among, replica_walk}
 use Rattle.fal_dentry.specs.TreeWalk.{last_name, last_key}
@@ -35,33 +32,15 @@ pub data Fate : Type 0 where
   -- whether it is denied, the directory of its last name, its last key, and the keys that the batch holds for it
   Joins : Bool → Option Dentry → Key → List Key → Fate
 
-abbrev pub good_names : PathArg → Option (List (List ℕ))
-good_names (Good names) = Some names
-good_names (Bad fault raw) = None
-
--- the names of an op's path, where it has exactly one path and that is good
-abbrev pub op_names : Op → Option (List (List ℕ))
-op_names (op.Mkdir path mode) = good_names path
-op_names (op.Create path mode) = good_names path
-op_names (op.Stat path) = good_names path
-op_names (op.Access path want) = good_names path
-op_names (op.Chmod path mode) = good_names path
-op_names (op.Chown path uid gid) = good_names path
-op_names (op.Truncate path size) = good_names path
-op_names (op.Unlink path) = good_names path
-op_names (op.Rmdir path) = good_names path
-op_names (op.Rename old new) = None
-op_names (op.List path) = good_names path
-op_names (op.Place name rule) = None
-
 -- the last name. The root path has none
 abbrev pub last_of : List (List ℕ) → Option (List ℕ)
 last_of names = slice_get names (length names - 1)
 
+-- all names are every name but the empty one, which is the root's
 abbrev pub bars : Barred → List ℕ → Bool
 bars barred.Nothing name = false
 bars (barred.One other) name = same_name other name
-bars barred.All name = true
+bars barred.All name = not (length name == 0)
 
 -- whether the last name is blocked. The root path is not
 abbrev pub is_blocked : Barred → Option (List ℕ) → Bool

@@ -13,7 +13,8 @@ use Rattle.fal_batch.specs.declared.parts.Wanted.{Wanted}
 use Rattle.fal_batch.specs.declared.parts.Planned.{Planned}
 use Rattle.fal_batch.specs.declared.parts.Sending.{Sending}
 use Rattle.fal_batch.specs.declared.parts.Sending.TheVariants as sending
-use Rattle.fal_batch.specs.Fate.{Setting, Fate, Skips, Leaves, Waits, Joins, fate, op_names, walk_of, walked_keys}
+use Rattle.fal_batch.specs.Fate.{Setting, Fate, Skips, Leaves, Waits, Joins, fate, walk_of, walked_keys}
+use Rattle.fal_base.specs.OpPaths.{op_names}
 use Rattle.fal_batch.specs.Keys.{with_keys, are_distinct}
 
 -- the calls that leave, the fetches to open, the records to send for both in their order, the calls of the batch, and the keys that it is to hold

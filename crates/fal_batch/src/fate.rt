@@ -4,7 +4,7 @@ ghost use Rattle.fal_batch.specs.Fate.{away_to, fate_at, fate_walked, fate_by, f
 ghost use Rattle.fal_batch.specs.Seen.{fate_seen, site_seen};
 
 use crate::keys::is_among;
-use crate::names::{goes_by_parent, is_blocked, last_key, last_name_of, path_of};
+use crate::names::{goes_by_parent, is_blocked, last_key, last_name_of};
 use fal_base::{Barred, CallRec, Dentry, Duplicate, Key, OutOfMemory, Path};
 use fal_dentry::{Replica, Walk};
 use fal_locks::Locks;
@@ -127,7 +127,7 @@ fn fate_of_path(site: &Site<'_>, call: &CallRec, path: &Path) -> Result<Fate, Ou
 pub(crate) fn fate_of(site: &Site<'_>, call: &CallRec) -> Result<Fate, OutOfMemory>
     ensures { IfOk result (λ told. fate_seen told ≡ fate (site_seen site.now) call.now) }
 {
-    match path_of(&call.op) {
+    match call.op.only_path() {
         None => Ok(Fate::Skips),
         Some(path) => fate_of_path(site, call, path),
     }

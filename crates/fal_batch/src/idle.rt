@@ -7,7 +7,7 @@ ghost use Rattle.fal_batch.specs.Seen.{setting_of, site_seen};
 
 use crate::ending::{Ending, has_key_of, walk_end};
 use crate::fate::Site;
-use crate::names::{goes_by_parent, is_blocked, last_name_of, last_or, path_of};
+use crate::names::{goes_by_parent, is_blocked, last_name_of, last_or};
 use fal_base::{Barred, CallRec, Dentry, Name, Path};
 use fal_dentry::Replica;
 use fal_locks::Locks;
@@ -68,7 +68,7 @@ fn is_path_skipped(site: &Site<'_>, call: &CallRec, path: &Path) -> bool
 fn is_call_skipped(site: &Site<'_>, call: &CallRec) -> bool
     ensures { result ≡ is_skipped (site_seen site.now) call.now }
 {
-    match path_of(&call.op) {
+    match call.op.only_path() {
         None => true,
         Some(path) => is_path_skipped(site, call, path),
     }

@@ -13,6 +13,3 @@ mod planning;
 pub use idle::is_plan_idle;
 pub use parts::{Away, Plan, Planned, Sending, Wanted};
 pub use planning::plan;
-
-#[cfg(test)]
-mod tests;

@@ -1,40 +1,11 @@
 ghost use Rattle.std.specs.Prelude.{◌≡◌, [], IfOk};
 ghost use Rattle.std.specs.Option.{option_copied};
 ghost use Rattle.fal_dentry.specs.TreeWalk.{last_name, last_key as key_at};
-ghost use Rattle.fal_batch.specs.Fate.{good_names, op_names, last_of, is_blocked as is_name_blocked, goes_by_parent as by_parent};
+ghost use Rattle.fal_batch.specs.Fate.{last_of, is_blocked as is_name_blocked, goes_by_parent as by_parent};
 
-use fal_base::{Barred, Dentry, Duplicate, Key, Name, Op, OutOfMemory, Path, PathArg, Rule};
+use fal_base::{Barred, Dentry, Duplicate, Key, Name, OutOfMemory, Path, Rule};
 use fal_place::Table;
 use std::alloc::Global;
-
-fn good_path(arg: &PathArg) -> Option<&Path>
-    ensures { option_copied result ≡ good_names arg.now }
-{
-    match arg {
-        PathArg::Good(path) => Some(path),
-        PathArg::Bad { .. } => None,
-    }
-}
-
-// The path of an op, where it has exactly one and that is good.
-pub(crate) fn path_of(op: &Op) -> Option<&Path>
-    ensures { option_copied result ≡ op_names op.now }
-{
-    match op {
-        Op::Mkdir { path, .. } => good_path(path),
-        Op::Create { path, .. } => good_path(path),
-        Op::Stat { path } => good_path(path),
-        Op::Access { path, .. } => good_path(path),
-        Op::Chmod { path, .. } => good_path(path),
-        Op::Chown { path, .. } => good_path(path),
-        Op::Truncate { path, .. } => good_path(path),
-        Op::Unlink { path } => good_path(path),
-        Op::Rmdir { path } => good_path(path),
-        Op::Rename { .. } => None,
-        Op::List { path } => good_path(path),
-        Op::Place { .. } => None,
-    }
-}
 
 // The last name of a path, if it has one.
 pub(crate) fn last_name_of(path: &Path) -> Option<&Name>
@@ -53,7 +24,7 @@ pub(crate) fn is_blocked(blocked: &Barred, last: Option<&Name>) -> bool
     match blocked {
         Barred::Nothing => false,
         Barred::One(other) => *other == *name,
-        Barred::All => true,
+        Barred::All => !name.bytes().is_empty(),
     }
 }
 

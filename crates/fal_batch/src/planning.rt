@@ -1,5 +1,6 @@
 ghost use Rattle.std.specs.Prelude.{◌≡◌, ◌==◌, not, length, OnOk, IfOk, IsTrue, None};
 ghost use Rattle.fal_locks.specs.Locks.{first_shut};
+ghost use Rattle.fal_wait.specs.Waiting.{IsNumbered};
 ghost use Rattle.fal_batch.specs.Keys.{are_distinct};
 ghost use Rattle.fal_batch.specs.Plan.{plan_one, plan_at, plan_of, free_call, IsUnion, IsEmptyWhereNoneJoins, IsIdleWhereAllAreSkipped, IsShared};
 ghost use Rattle.fal_batch.specs.Seen.{plan_seen, setting_of, site_seen};
@@ -35,7 +36,8 @@ fn add_ticket(
 
 // The plan for all the free calls.
 fn plan_at_site(site: &Site<'_>, waiting: &Waiting) -> Result<Plan, OutOfMemory>
-    ensures { IfOk result (λ plan. plan_seen plan ≡ plan_of (site_seen site.now) waiting.now.list) }
+    ensures plan { IfOk result (λ plan. plan_seen plan ≡ plan_of (site_seen site.now) waiting.now.list) }
+    ensures numbered { IsNumbered waiting.now.list }
 {
     let tickets = waiting.free()?;
     let mut plan = Plan::new(site.alloc);
@@ -70,6 +72,7 @@ pub fn plan(
 ) -> Result<Plan, OutOfMemory>
     ensures plan { IfOk result
         (λ plan. plan_seen plan ≡ plan_of (setting_of replica.now.entries locks.now.table table.now me blocked.now limit) waiting.now.list) }
+    ensures numbered { IsNumbered waiting.now.list }
     ensures distinct { IfOk result (λ plan. IsTrue (are_distinct plan.keys.items)) }
     ensures open { IfOk result (λ plan. first_shut locks.now.table plan.keys.items ≡ None) }
     ensures union { IfOk result

@@ -10,31 +10,31 @@ use Rattle.fal_place.specs.Placement.{is_within}
 use Rattle.fal_wire.specs.Messages.{reading}
 use Rattle.fal_client.specs.declared.current.Current.{Current}
 use Rattle.fal_client.specs.declared.event.ClientEvent.TheVariants.{Send, Get}
-use Rattle.fal_client.specs.Paths.{bad_path}
+use Rattle.fal_base.specs.OpPaths.{bad_path}
 use Rattle.fal_client.specs.State.{ClientState, opening_client, unchanged}
-use Rattle.fal_client.specs.Step.{IsInRange, CanMake, is_lane, read_move, retried, told_stale, started, skipped, sent_next, got, client_move}
+use Rattle.fal_client.specs.Step.{IsInRange, CanMake, is_lane, read_step, retried, told_stale, started, skipped, sent_next, got, client_step}
 
 pub stale_in_range : (c : ClientState) (current : Current) (old new : ℕ) (changes : List RuleChange) → IsInRange (told_stale c current old new changes)
     → list_all (λ change. is_within c.table.nodes change.rule) changes ≡ true → IsInRange (retried c current old new changes)
 unfolding told_stale
 stale_in_range c current old new changes range all = subst (λ (b : Bool). IsInRange (cond b (retried c current old new changes) (unchanged c))) all range
 
-pub get_in_range : (c : ClientState) (e : Envelope) → CanMake c (Get e) → is_lane c.lane e.to ≡ true → IsInRange (read_move c e.point (reading e.bytes))
-unfolding client_move got
-get_in_range c e can is = can (read_move c e.point (reading e.bytes)) (ap (got c e) is)
+pub get_in_range : (c : ClientState) (e : Envelope) → CanMake c (Get e) → is_lane c.lane e.to ≡ true → IsInRange (read_step c e.point (reading e.bytes))
+unfolding client_step got
+get_in_range c e can is = can (read_step c e.point (reading e.bytes)) (ap (got c e) is)
 
 pub no_current : (x : Option Current) → is_none x ≡ true → x ≡ None
 no_current None is = refl
 no_current (Some x) is = cc
 
 pub send_in_range : (c : ClientState) (call : Call) → CanMake c Send → is_none c.current ≡ true → slice_get c.left 0 ≡ Some call → IsInRange (started c call (bad_path call.op))
-unfolding client_move sent_next
+unfolding client_step sent_next
 send_in_range c call can idle next =
     can (started c call (bad_path call.op)) (ap (λ x. sent_next c x (slice_get c.left 0)) (no_current c.current idle) ∙ ap (sent_next c None) next)
 
 -- a call with a bad path may be sent, since it makes no record
 pub bad_path_in_range : (lane nodes : ℕ) (call : Call) (calls : List Call) (fault : PathFault) → bad_path call.op ≡ Some fault → CanMake (opening_client lane nodes (call ∷ calls)) Send
-unfolding client_move sent_next started skipped
+unfolding client_step sent_next started skipped
 bad_path_in_range lane nodes call calls fault bad m is =
     let c : ClientState = opening_client lane nodes (call ∷ calls) in
     let none : IsInRange (started c call (Some fault)) = record { records = λ k d lt. absurd (omega arith); calls = omega arith; attempts = omega arith } in

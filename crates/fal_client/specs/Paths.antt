@@ -1,38 +1,11 @@
--- The paths of an operation: which of them is bad, and where a call is sent by them.
-use Rattle.std.specs.Prelude.{Option, Some, None}
+-- Where a call is sent by its paths.
 use Rattle.fal_base.specs.declared.event.Actor.{Actor}
 use Rattle.fal_base.specs.declared.event.Actor.TheVariants.{Node, Coord}
 use Rattle.fal_base.specs.declared.op.Op.{Op}
 use Rattle.fal_base.specs.declared.op.Op.TheVariants as op
 use Rattle.fal_base.specs.declared.path.PathArg.{PathArg}
 use Rattle.fal_base.specs.declared.path.PathArg.TheVariants.{Good, Bad}
-use Rattle.fal_base.specs.declared.path.PathFault.{PathFault}
 use Rattle.fal_place.specs.Placement.{Placement, route}
-
--- the rule that a path breaks
-abbrev pub fault_of : PathArg → Option PathFault
-fault_of (Good names) = None
-fault_of (Bad fault raw) = Some fault
-
--- the first of two faults
-abbrev pub first_fault : Option PathFault → Option PathFault → Option PathFault
-first_fault None next = next
-first_fault (Some fault) next = Some fault
-
--- the rule that the first bad path of an operation breaks
-unfoldable pub bad_path : Op → Option PathFault
-bad_path (op.Mkdir path mode) = fault_of path
-bad_path (op.Create path mode) = fault_of path
-bad_path (op.Stat path) = fault_of path
-bad_path (op.Access path want) = fault_of path
-bad_path (op.Chmod path mode) = fault_of path
-bad_path (op.Chown path uid gid) = fault_of path
-bad_path (op.Truncate path size) = fault_of path
-bad_path (op.Unlink path) = fault_of path
-bad_path (op.Rmdir path) = fault_of path
-bad_path (op.Rename old new) = first_fault (fault_of old) (fault_of new)
-bad_path (op.List path) = fault_of path
-bad_path (op.Place name rule) = None
 
 -- the node to which a call on this path goes. A call on a bad path goes nowhere: what stands for it here is a mere filler
 abbrev pub node_for : Placement → PathArg → Actor

@@ -1,98 +1,91 @@
-//! The records by which a client asks.
+//! The letters by which a client asks.
 
-ghost use Rattle.std.specs.Prelude.{◌≡◌, ◌≤◌, ◌∷◌, [], map, IfOk};
+ghost use Rattle.std.specs.Prelude.{◌≡◌, ◌∷◌, [], map, IfOk};
 ghost use Rattle.std.specs.List.{All, range_with_len};
-ghost use Rattle.fal_wire.specs.declared.message.Message.TheVariants as message;
-ghost use Rattle.fal_wire.specs.Messages.{spelling, Fits};
+ghost use Rattle.fal_wire.specs.Letters.{output_of};
+ghost use Rattle.fal_wire.specs.Messages.{Fits};
 ghost use Rattle.fal_client.specs.Paths.{addressee as addressee_of};
-ghost use Rattle.fal_client.specs.Step.{sending, output_of, call_message, asks_for, output_at};
+ghost use Rattle.fal_client.specs.Step.{letter_to as letter_to_of, call_message, part_letter, asks_for};
 
 use crate::paths::addressee;
-use fal_base::{
-    Actor, Bytes, Call, CallId, CallRec, Duplicate, OutOfMemory, Output, OutputList, Point,
-};
+use fal_base::{Actor, Call, CallId, CallRec, Duplicate, OutOfMemory, OutputList, Point};
 use fal_place::Table;
-use fal_wire::{Message, encode};
+use fal_wire::{Letter, Message, spelled};
 use std::alloc::Global;
 
-fn bytes_of(alloc: Global, message: &Message) -> Result<Bytes, OutOfMemory>
-    requires { Fits message.now }
-    ensures { IfOk result (λ bytes. bytes ≡ spelling message.now) }
+// A client commits nothing, so its letters stand at the point of the event.
+fn letter_to(to: Actor, message: Message) -> Letter
+    ensures { result ≡ letter_to_of to message }
 {
-    let mut bytes = Vec::new(alloc);
-    encode(message, &mut bytes)?;
-    Ok(Bytes::from_items(bytes))
-}
-
-fn output(alloc: Global, to: Actor, message: &Message) -> Result<Output, OutOfMemory>
-    requires { Fits message.now }
-    ensures { IfOk result (λ output. output ≡ output_of (sending to message.now)) }
-{
-    let bytes = bytes_of(alloc, message)?;
-    Ok(Output {
+    Letter {
         to,
         point: Point::Here(0),
-        bytes,
-    })
+        message,
+    }
 }
 
-// The record of a call, to whom the table says.
-fn call_output(alloc: Global, id: CallId, table: &Table, call: &Call) -> Result<Output, OutOfMemory>
-    requires { Fits (call_message id table.now.version call.now) }
-    ensures { IfOk result (λ output. output ≡ output_of (sending (addressee_of table.now call.now.op) (call_message id table.now.version call.now))) }
+// The call, to whom the table says.
+fn call_letters(
+    alloc: Global,
+    id: CallId,
+    table: &Table,
+    call: &Call,
+) -> Result<Vec<Letter>, OutOfMemory>
+    ensures { IfOk result (λ letters. letters.items ≡ letter_to_of (addressee_of table.now call.now.op) (call_message id table.now.version call.now) ∷ []) }
 {
+    let mut letters = Vec::new(alloc);
     let message = Message::Call(CallRec {
         id,
         cred: call.cred,
         version: table.version(),
         op: call.op.copy()?,
     });
-    let output = output(alloc, addressee(table, &call.op), &message)?;
-    Ok(output)
+    letters.push(letter_to(addressee(table, &call.op), message))?;
+    Ok(letters)
 }
 
-// The same record to each of so many nodes.
-#[tactic(auto, using(crate::proofs::Sent::outputs_more))]
-fn outputs_to_nodes(alloc: Global, nodes: u8, bytes: &Bytes) -> Result<OutputList, OutOfMemory>
-    ensures { IfOk result (λ sent. sent ≡ map (output_at bytes.now) (range_with_len 0 nodes)) }
-{
-    let mut sent = OutputList::new(alloc);
-    for node in 0..nodes {
-        sent.push(Output {
-            to: Actor::Node(node),
-            point: Point::Here(0),
-            bytes: bytes.copy()?,
-        })?;
-    }
-    Ok(sent)
-}
-
-// The record that asks each of so many nodes for its part of a listing.
-fn list_outputs(
+// What asks each of so many nodes for its part of a listing.
+#[tactic(auto, using(crate::proofs::Sent::letters_more))]
+fn part_letters(
     alloc: Global,
     id: CallId,
     version: u32,
     nodes: u8,
     dir: u64,
-) -> Result<OutputList, OutOfMemory>
-    requires { Fits (message.ListAsk id version dir) }
-    ensures { IfOk result (λ sent. sent ≡ map (output_at (spelling (message.ListAsk id version dir))) (range_with_len 0 nodes)) }
+) -> Result<Vec<Letter>, OutOfMemory>
+    ensures { IfOk result (λ letters. letters.items ≡ map (part_letter id version dir) (range_with_len 0 nodes)) }
 {
-    let bytes = bytes_of(alloc, &Message::ListAsk { id, version, dir })?;
-    let sent = outputs_to_nodes(alloc, nodes, &bytes)?;
-    Ok(sent)
-}
-
-fn one_output(alloc: Global, output: Output) -> Result<OutputList, OutOfMemory>
-    ensures { IfOk result (λ sent. sent ≡ output ∷ []) }
-{
-    let mut sent = OutputList::new(alloc);
-    sent.push(output)?;
-    Ok(sent)
+    let mut letters = Vec::new(alloc);
+    for node in 0..nodes {
+        letters.push(letter_to(Actor::Node(node), Message::ListAsk { id, version, dir }))?;
+    }
+    Ok(letters)
 }
 
 // What asks for a call by the table; or, where its directory is known, what asks each node for its part.
+fn ask_letters(
+    alloc: Global,
+    id: CallId,
+    table: &Table,
+    nodes: u8,
+    call: &Call,
+    dir: Option<u64>,
+) -> Result<Vec<Letter>, OutOfMemory>
+    ensures { IfOk result (λ letters. letters.items ≡ asks_for id table.now nodes call.now dir) }
+{
+    match dir {
+        None => {
+            let letters = call_letters(alloc, id, table, call)?;
+            Ok(letters)
+        }
+        Some(dir) => {
+            let letters = part_letters(alloc, id, table.version(), nodes, dir)?;
+            Ok(letters)
+        }
+    }
+}
 
+// The records of what asks for a call.
 pub fn ask_outputs(
     alloc: Global,
     id: CallId,
@@ -101,19 +94,10 @@ pub fn ask_outputs(
     call: &Call,
     dir: Option<u64>,
 ) -> Result<OutputList, OutOfMemory>
-    requires some { 1 ≤ nodes }
-    requires fit { All (λ s. Fits s.message) (asks_for id table.now nodes call.now dir) }
+    requires { All (λ letter. Fits letter.message) (asks_for id table.now nodes call.now dir) }
     ensures { IfOk result (λ sent. sent ≡ map output_of (asks_for id table.now nodes call.now dir)) }
 {
-    match dir {
-        None => {
-            let output = call_output(alloc, id, table, call)?;
-            let sent = one_output(alloc, output)?;
-            Ok(sent)
-        }
-        Some(dir) => {
-            let sent = list_outputs(alloc, id, table.version(), nodes, dir)?;
-            Ok(sent)
-        }
-    }
+    let letters = ask_letters(alloc, id, table, nodes, call, dir)?;
+    let sent = spelled(alloc, &letters)?;
+    Ok(sent)
 }

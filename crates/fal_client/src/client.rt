@@ -2,10 +2,10 @@ ghost use Rattle.std.specs.Prelude.{◌≡◌, ◌≤◌, ◌↔◌, IfOk, OnErr
 ghost use Rattle.std.specs.Option.{option_copied};
 ghost use Rattle.fal_base.specs.declared.refuse.Refuse.TheVariants as Refuse;
 ghost use Rattle.fal_client.specs.declared.event.ClientEvent.TheVariants as ClientEvent;
-ghost use Rattle.fal_client.specs.declared.prepared.Change.TheVariants as Change;
+ghost use Rattle.fal_client.specs.declared.patch.Patch.TheVariants as Patch;
 ghost use Rattle.fal_client.specs.State.{opening_client};
-ghost use Rattle.fal_client.specs.Step.{IsInRange, CanMake, is_lane as is_lane_of, client_move, client_step, read_move};
-ghost use Rattle.fal_client.specs.Patch.{Makes, MakesIf, StepsBy, patched};
+ghost use Rattle.fal_client.specs.Step.{IsInRange, CanMake, is_lane as is_lane_of, client_step, read_step};
+ghost use Rattle.fal_client.specs.Patch.{IsStep, IsStepIf, IsStepFor, patched};
 ghost use Rattle.fal_wire.specs.Messages.{reading};
 
 use crate::current::{Current, Listing, again, begun, opened, with_part};
@@ -13,7 +13,7 @@ use crate::event::ClientEvent;
 use crate::hear::{hear, nothing};
 use crate::news::news_of;
 use crate::parts::{Part, Parts};
-use crate::prepared::{Change, Prepared};
+use crate::patch::{Patch, Prepared};
 use crate::send::start;
 use fal_base::{Actor, Call, Envelope, OutOfMemory, Refuse};
 use fal_place::Table;
@@ -106,11 +106,11 @@ impl Client {
     }
 
     // Send, if it is enabled.
-    #[tactic(auto, unfolding(crate::specs::Step::client_move, crate::specs::Step::sent_next))]
+    #[tactic(auto, unfolding(crate::specs::Step::client_step, crate::specs::Step::sent_next))]
     fn ready_send(&self) -> Result<Option<Prepared>, OutOfMemory>
         requires { CanMake self.now ClientEvent.Send }
-        ensures ok { IfOk result (λ p. MakesIf self.now (client_move self.now ClientEvent.Send) p) }
-        ensures err { OnErr result (IsSome (client_move self.now ClientEvent.Send)) }
+        ensures ok { IfOk result (λ p. IsStepIf self.now (client_step self.now ClientEvent.Send) p) }
+        ensures err { OnErr result (IsSome (client_step self.now ClientEvent.Send)) }
     {
         if !self.idle() {
             return Ok(None);
@@ -125,10 +125,10 @@ impl Client {
     }
 
     // What came as bytes.
-    #[tactic(auto, unfolding(crate::specs::Step::read_move))]
+    #[tactic(auto, unfolding(crate::specs::Step::read_step))]
     fn read(&self, point: u64, bytes: &[u8]) -> Result<Prepared, OutOfMemory>
-        requires { IsInRange (read_move self.now point (reading bytes.now)) }
-        ensures { IfOk result (λ p. Makes self.now (read_move self.now point (reading bytes.now)) p) }
+        requires { IsInRange (read_step self.now point (reading bytes.now)) }
+        ensures { IfOk result (λ p. IsStep self.now (read_step self.now point (reading bytes.now)) p) }
     {
         match decode(self.alloc, bytes) {
             Ok(message) => {
@@ -141,11 +141,11 @@ impl Client {
     }
 
     // Get, if it is enabled.
-    #[tactic(auto, unfolding(crate::specs::Step::client_move, crate::specs::Step::got))]
+    #[tactic(auto, unfolding(crate::specs::Step::client_step, crate::specs::Step::got))]
     fn ready_get(&self, envelope: &Envelope) -> Result<Option<Prepared>, OutOfMemory>
         requires { CanMake self.now (ClientEvent.Get envelope.now) }
-        ensures ok { IfOk result (λ p. MakesIf self.now (client_move self.now (ClientEvent.Get envelope.now)) p) }
-        ensures err { OnErr result (IsSome (client_move self.now (ClientEvent.Get envelope.now))) }
+        ensures ok { IfOk result (λ p. IsStepIf self.now (client_step self.now (ClientEvent.Get envelope.now)) p) }
+        ensures err { OnErr result (IsSome (client_step self.now (ClientEvent.Get envelope.now))) }
     {
         if !is_lane(self.lane, envelope.to) {
             return Ok(None);
@@ -156,8 +156,8 @@ impl Client {
 
     fn ready_event(&self, event: &ClientEvent) -> Result<Option<Prepared>, OutOfMemory>
         requires { CanMake self.now event.now }
-        ensures ok { IfOk result (λ p. MakesIf self.now (client_move self.now event.now) p) }
-        ensures err { OnErr result (IsSome (client_move self.now event.now)) }
+        ensures ok { IfOk result (λ p. IsStepIf self.now (client_step self.now event.now) p) }
+        ensures err { OnErr result (IsSome (client_step self.now event.now)) }
     {
         match event {
             ClientEvent::Send => self.ready_send(),
@@ -174,7 +174,7 @@ impl Client {
     pub fn ready(&mut self, event: &ClientEvent) -> Result<Prepared, Refuse>
         requires { CanMake self.old event.now }
         ensures same { self.new ≡ self.old }
-        ensures ok { IfOk result (λ p. StepsBy self.old event.now p) }
+        ensures ok { IfOk result (λ p. IsStepFor self.old event.now p) }
         ensures refused { IsErrOf result Refuse.NotEnabled ↔ IsNone (client_step self.old event.now) }
     {
         match self.ready_event(event) {
@@ -187,7 +187,7 @@ impl Client {
     // The next call becomes the current one.
     #[tactic(auto, unfolding(crate::specs::Patch::patched))]
     fn start_next(&mut self, seq: u32)
-        ensures { self.new ≡ patched self.old (Change.Start seq) }
+        ensures { self.new ≡ patched self.old (Patch.Start seq) }
     {
         self.seq = seq;
         self.current = begun(self.left.pop_front());
@@ -196,7 +196,7 @@ impl Client {
     // The next call is done.
     #[tactic(auto, unfolding(crate::specs::Patch::patched))]
     fn skip_next(&mut self, seq: u32)
-        ensures { self.new ≡ patched self.old (Change.Skip seq) }
+        ensures { self.new ≡ patched self.old (Patch.Skip seq) }
     {
         self.seq = seq;
         drop(self.left.pop_front());
@@ -206,14 +206,14 @@ impl Client {
     // The current call is done.
     #[tactic(auto, unfolding(crate::specs::Patch::patched))]
     fn finish_current(&mut self)
-        ensures { self.new ≡ patched self.old Change.Finish }
+        ensures { self.new ≡ patched self.old Patch.Finish }
     {
         self.current = None;
     }
 
     #[tactic(auto, unfolding(crate::specs::Patch::patched))]
     fn retry_current(&mut self, attempt: u32, table: Table, parts: Parts)
-        ensures { self.new ≡ patched self.old (Change.Retry attempt table parts) }
+        ensures { self.new ≡ patched self.old (Patch.Retry attempt table parts) }
     {
         self.table = table;
         self.current = again(self.current.take(), attempt, parts);
@@ -221,14 +221,14 @@ impl Client {
 
     #[tactic(auto, unfolding(crate::specs::Patch::patched))]
     fn open_listing(&mut self, listing: Listing)
-        ensures { self.new ≡ patched self.old (Change.Open listing) }
+        ensures { self.new ≡ patched self.old (Patch.Open listing) }
     {
         self.current = opened(self.current.take(), listing);
     }
 
     #[tactic(auto, unfolding(crate::specs::Patch::patched))]
     fn join_part(&mut self, node: u8, part: Part)
-        ensures { self.new ≡ patched self.old (Change.Join node part) }
+        ensures { self.new ≡ patched self.old (Patch.Join node part) }
     {
         self.current = with_part(self.current.take(), node, part);
     }
@@ -236,20 +236,20 @@ impl Client {
     /// Lays a prepared step on. Takes no memory and can't fail. After the client's own last `ready` it is that event's step.
     #[tactic(auto, unfolding(crate::specs::Patch::patched))]
     pub fn apply(&mut self, prepared: Prepared)
-        ensures { self.new ≡ patched self.old prepared.change }
+        ensures { self.new ≡ patched self.old prepared.patch }
     {
-        match prepared.into_change() {
-            Change::Keep => {}
-            Change::Start { seq } => self.start_next(seq),
-            Change::Skip { seq } => self.skip_next(seq),
-            Change::Finish => self.finish_current(),
-            Change::Retry {
+        match prepared.into_patch() {
+            Patch::Keep => {}
+            Patch::Start { seq } => self.start_next(seq),
+            Patch::Skip { seq } => self.skip_next(seq),
+            Patch::Finish => self.finish_current(),
+            Patch::Retry {
                 attempt,
                 table,
                 parts,
             } => self.retry_current(attempt, table, parts),
-            Change::Open { listing } => self.open_listing(listing),
-            Change::Join { node, part } => self.join_part(node, part),
+            Patch::Open { listing } => self.open_listing(listing),
+            Patch::Join { node, part } => self.join_part(node, part),
         }
     }
 }

@@ -4,7 +4,7 @@ ghost use Rattle.std.specs.Prelude.{◌≡◌, Some, IfOk};
 ghost use Rattle.fal_client.specs.Step.{IsInRange, answered, replied, retried, told_stale, opened, told_opened, kept, listed, told_part, is_about as is_about_of, dir_of as dir_of_listing, told, heard_by, heard};
 ghost use Rattle.fal_client.specs.State.{unchanged};
 ghost use Rattle.fal_place.specs.Placement.{AllWithin};
-ghost use Rattle.fal_client.specs.Patch.{Makes};
+ghost use Rattle.fal_client.specs.Patch.{IsStep};
 
 use crate::asks::ask_outputs;
 use crate::client::Client;
@@ -12,7 +12,7 @@ use crate::current::{Current, Listing};
 use crate::list::all_names;
 use crate::news::News;
 use crate::parts::{Part, Parts};
-use crate::prepared::{Change, Prepared};
+use crate::patch::{Patch, Prepared};
 use fal_base::{
     CallId, Duplicate, NameList, Note, NoteList, OutOfMemory, OutputList, Point, Reply,
 };
@@ -21,12 +21,12 @@ use fal_wire::ChangeList;
 // Nothing changes.
 #[tactic(auto, unfolding(crate::specs::Patch::patched))]
 pub fn nothing(client: &Client) -> Prepared
-    ensures { Makes client.now (unchanged client.now) result }
+    ensures { IsStep client.now (unchanged client.now) result }
 {
     let alloc = client.alloc;
     Prepared::new(
         alloc,
-        Change::Keep,
+        Patch::Keep,
         OutputList::new(alloc),
         NoteList::new(alloc),
     )
@@ -35,7 +35,7 @@ pub fn nothing(client: &Client) -> Prepared
 // The current call is answered.
 #[tactic(auto, unfolding(crate::specs::Step::answered, crate::specs::Patch::patched))]
 fn answer(client: &Client, point: u64, reply: Reply) -> Result<Prepared, OutOfMemory>
-    ensures { IfOk result (λ p. Makes client.now (answered client.now point reply) p) }
+    ensures { IfOk result (λ p. IsStep client.now (answered client.now point reply) p) }
 {
     let alloc = client.alloc;
     let mut notes = NoteList::new(alloc);
@@ -45,7 +45,7 @@ fn answer(client: &Client, point: u64, reply: Reply) -> Result<Prepared, OutOfMe
         point: Point::Carried(point),
         reply,
     })?;
-    Ok(Prepared::new(alloc, Change::Finish, OutputList::new(alloc), notes))
+    Ok(Prepared::new(alloc, Patch::Finish, OutputList::new(alloc), notes))
 }
 
 #[tactic(auto, unfolding(crate::specs::Step::replied))]
@@ -55,7 +55,7 @@ fn hear_reply(
     point: u64,
     reply: Reply,
 ) -> Result<Prepared, OutOfMemory>
-    ensures { IfOk result (λ p. Makes client.now (replied client.now point reply current.now.listing) p) }
+    ensures { IfOk result (λ p. IsStep client.now (replied client.now point reply current.now.listing) p) }
 {
     match &current.listing {
         None => {
@@ -88,7 +88,7 @@ fn retry(
     requires current { client.now.current ≡ Some current.now }
     requires within { AllWithin client.now.table.nodes changes.now }
     requires range { IsInRange (retried client.now current.now old new changes.now) }
-    ensures { IfOk result (λ p. Makes client.now (retried client.now current.now old new changes.now) p) }
+    ensures { IfOk result (λ p. IsStep client.now (retried client.now current.now old new changes.now) p) }
 {
     let alloc = client.alloc;
     let attempt = current.attempt + 1;
@@ -116,12 +116,12 @@ fn retry(
         new,
     })?;
     let parts = Parts::none(alloc, client.nodes)?;
-    let change = Change::Retry {
+    let patch = Patch::Retry {
         attempt,
         table,
         parts,
     };
-    Ok(Prepared::new(alloc, change, sent, notes))
+    Ok(Prepared::new(alloc, patch, sent, notes))
 }
 
 #[tactic(auto, unfolding(crate::specs::Step::told_stale))]
@@ -134,7 +134,7 @@ fn hear_stale(
 ) -> Result<Prepared, OutOfMemory>
     requires current { client.now.current ≡ Some current.now }
     requires range { IsInRange (told_stale client.now current.now old new changes.now) }
-    ensures { IfOk result (λ p. Makes client.now (told_stale client.now current.now old new changes.now) p) }
+    ensures { IfOk result (λ p. IsStep client.now (told_stale client.now current.now old new changes.now) p) }
 {
     if client.table.fits_all(changes.as_slice()) {
         let prepared = retry(client, current, old, new, changes)?;
@@ -148,7 +148,7 @@ fn hear_stale(
 fn open(client: &Client, current: &Current, dir: u64, point: u64) -> Result<Prepared, OutOfMemory>
     requires current { client.now.current ≡ Some current.now }
     requires range { IsInRange (opened client.now current.now dir point) }
-    ensures { IfOk result (λ p. Makes client.now (opened client.now current.now dir point) p) }
+    ensures { IfOk result (λ p. IsStep client.now (opened client.now current.now dir point) p) }
 {
     let alloc = client.alloc;
     let id = CallId {
@@ -177,7 +177,7 @@ fn open(client: &Client, current: &Current, dir: u64, point: u64) -> Result<Prep
         opened: point,
         parts: Parts::none(alloc, client.nodes)?,
     };
-    Ok(Prepared::new(alloc, Change::Open { listing }, sent, notes))
+    Ok(Prepared::new(alloc, Patch::Open { listing }, sent, notes))
 }
 
 #[tactic(auto, unfolding(crate::specs::Step::told_opened))]
@@ -189,7 +189,7 @@ fn hear_opened(
 ) -> Result<Prepared, OutOfMemory>
     requires current { client.now.current ≡ Some current.now }
     requires range { IsInRange (told_opened client.now current.now dir point current.now.listing) }
-    ensures { IfOk result (λ p. Makes client.now (told_opened client.now current.now dir point current.now.listing) p) }
+    ensures { IfOk result (λ p. IsStep client.now (told_opened client.now current.now dir point current.now.listing) p) }
 {
     match &current.listing {
         None => {
@@ -204,13 +204,13 @@ fn hear_opened(
 #[tactic(auto, unfolding(crate::specs::Step::kept, crate::specs::Patch::patched))]
 fn keep(client: &Client, current: &Current, node: u8, part: Part) -> Prepared
     requires { client.now.current ≡ Some current.now }
-    ensures { Makes client.now (kept client.now current.now node part) result }
+    ensures { IsStep client.now (kept client.now current.now node part) result }
 {
     let alloc = client.alloc;
     let _ = current;
     Prepared::new(
         alloc,
-        Change::Join { node, part },
+        Patch::Join { node, part },
         OutputList::new(alloc),
         NoteList::new(alloc),
     )
@@ -219,7 +219,7 @@ fn keep(client: &Client, current: &Current, node: u8, part: Part) -> Prepared
 // With the last part the call is answered.
 #[tactic(auto, unfolding(crate::specs::Step::listed))]
 fn finish(client: &Client, listing: &Listing, part: Part) -> Result<Prepared, OutOfMemory>
-    ensures { IfOk result (λ p. Makes client.now (listed client.now listing.now part) p) }
+    ensures { IfOk result (λ p. IsStep client.now (listed client.now listing.now part) p) }
 {
     let Part { point, names } = part;
     let point = listing.parts.greatest_point(point);
@@ -236,7 +236,7 @@ fn hear_part(
     part: Part,
 ) -> Result<Prepared, OutOfMemory>
     requires { client.now.current ≡ Some current.now }
-    ensures { IfOk result (λ p. Makes client.now (told_part client.now current.now node part current.now.listing) p) }
+    ensures { IfOk result (λ p. IsStep client.now (told_part client.now current.now node part current.now.listing) p) }
 {
     let Some(listing) = &current.listing else {
         return Ok(nothing(client));
@@ -263,7 +263,7 @@ fn is_about(client: &Client, current: &Current, id: CallId) -> bool
 fn tell(client: &Client, current: &Current, point: u64, news: News) -> Result<Prepared, OutOfMemory>
     requires current { client.now.current ≡ Some current.now }
     requires range { IsInRange (told client.now current.now point news) }
-    ensures { IfOk result (λ p. Makes client.now (told client.now current.now point news) p) }
+    ensures { IfOk result (λ p. IsStep client.now (told client.now current.now point news) p) }
 {
     match news {
         News::Replied { reply } => {
@@ -295,7 +295,7 @@ fn hear_by(
 ) -> Result<Prepared, OutOfMemory>
     requires current { client.now.current ≡ Some current.now }
     requires range { IsInRange (heard_by client.now current.now point news) }
-    ensures { IfOk result (λ p. Makes client.now (heard_by client.now current.now point news) p) }
+    ensures { IfOk result (λ p. IsStep client.now (heard_by client.now current.now point news) p) }
 {
     let Some((id, news)) = news else {
         return Ok(nothing(client));
@@ -315,7 +315,7 @@ pub fn hear(
     news: Option<(CallId, News)>,
 ) -> Result<Prepared, OutOfMemory>
     requires { IsInRange (heard client.now point news client.now.current) }
-    ensures { IfOk result (λ p. Makes client.now (heard client.now point news client.now.current) p) }
+    ensures { IfOk result (λ p. IsStep client.now (heard client.now point news client.now.current) p) }
 {
     let Some(current) = &client.current else {
         return Ok(nothing(client));

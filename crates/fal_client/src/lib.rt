@@ -10,14 +10,11 @@ mod law;
 mod list;
 mod news;
 mod parts;
+mod patch;
 mod paths;
-mod prepared;
 mod send;
 
 pub use client::Client;
 pub use event::ClientEvent;
 pub use law::records_are_read;
-pub use prepared::Prepared;
-
-#[cfg(test)]
-mod tests;
+pub use patch::Prepared;

@@ -1,14 +1,14 @@
 //! Sending the next call.
 
 ghost use Rattle.std.specs.Prelude.{◌≡◌, Some, IfOk, slice_get};
-ghost use Rattle.fal_client.specs.Paths.{bad_path as bad_path_of};
+ghost use Rattle.fal_base.specs.OpPaths.{bad_path};
 ghost use Rattle.fal_client.specs.Step.{IsInRange, begun, skipped, started};
-ghost use Rattle.fal_client.specs.Patch.{Makes};
+ghost use Rattle.fal_client.specs.Patch.{IsStep};
 
 use crate::asks::ask_outputs;
 use crate::client::Client;
-use crate::paths::{bad_path, errno_of};
-use crate::prepared::{Change, Prepared};
+use crate::patch::{Patch, Prepared};
+use crate::paths::errno_of;
 use fal_base::{Call, CallId, Note, NoteList, OutOfMemory, OutputList, PathFault, Point, Reply};
 
 // The call becomes the current one.
@@ -16,7 +16,7 @@ use fal_base::{Call, CallId, Note, NoteList, OutOfMemory, OutputList, PathFault,
 fn begin(client: &Client, call: &Call) -> Result<Prepared, OutOfMemory>
     requires next { slice_get client.now.left 0 ≡ Some call.now }
     requires range { IsInRange (begun client.now call.now) }
-    ensures { IfOk result (λ p. Makes client.now (begun client.now call.now) p) }
+    ensures { IfOk result (λ p. IsStep client.now (begun client.now call.now) p) }
 {
     let alloc = client.alloc;
     let seq = client.seq + 1;
@@ -32,14 +32,14 @@ fn begin(client: &Client, call: &Call) -> Result<Prepared, OutOfMemory>
         lane: client.lane,
         seq,
     })?;
-    Ok(Prepared::new(alloc, Change::Start { seq }, sent, notes))
+    Ok(Prepared::new(alloc, Patch::Start { seq }, sent, notes))
 }
 
 // A bad path is answered at once.
 #[tactic(auto, unfolding(crate::specs::Step::skipped, crate::specs::Patch::patched))]
 fn skip(client: &Client, fault: PathFault) -> Result<Prepared, OutOfMemory>
     requires { IsInRange (skipped client.now fault) }
-    ensures { IfOk result (λ p. Makes client.now (skipped client.now fault) p) }
+    ensures { IfOk result (λ p. IsStep client.now (skipped client.now fault) p) }
 {
     let alloc = client.alloc;
     let seq = client.seq + 1;
@@ -54,17 +54,17 @@ fn skip(client: &Client, fault: PathFault) -> Result<Prepared, OutOfMemory>
         point: Point::Here(0),
         reply: Reply::Fail(errno_of(fault)),
     })?;
-    Ok(Prepared::new(alloc, Change::Skip { seq }, OutputList::new(alloc), notes))
+    Ok(Prepared::new(alloc, Patch::Skip { seq }, OutputList::new(alloc), notes))
 }
 
 // The next call, as it is sent or answered at once.
 #[tactic(auto, unfolding(crate::specs::Step::started))]
 pub fn start(client: &Client, call: &Call) -> Result<Prepared, OutOfMemory>
     requires next { slice_get client.now.left 0 ≡ Some call.now }
-    requires range { IsInRange (started client.now call.now (bad_path_of call.now.op)) }
-    ensures { IfOk result (λ p. Makes client.now (started client.now call.now (bad_path_of call.now.op)) p) }
+    requires range { IsInRange (started client.now call.now (bad_path call.now.op)) }
+    ensures { IfOk result (λ p. IsStep client.now (started client.now call.now (bad_path call.now.op)) p) }
 {
-    match bad_path(&call.op) {
+    match call.op.bad_path() {
         None => {
             let prepared = begin(client, call)?;
             Ok(prepared)

@@ -1,5 +1,8 @@
 ghost use Rattle.std.specs.Prelude.{◌≡◌, ◌+◌, ◌≤◌, ◌⊎◌, [], length, OnOk, OnErr, IfOk, IsOk, IsSome};
 ghost use Rattle.std.specs.Option.{option_copied};
+ghost use Rattle.std.specs.List.Sorted.{IsStrictlySortedBy};
+ghost use Rattle.std.specs.Ordering.{nat_cmp};
+ghost use Rattle.std.specs.Cmp.Lexicographic.{slice_cmp};
 ghost use Rattle.fal_base.specs.Tree.{row_at, with_row, without_row, names_under, lines_of, IsInOrder};
 ghost use Rattle.fal_inode.specs.Named.{rows_named};
 
@@ -83,9 +86,11 @@ impl Rows {
         count
     }
 
-    /// The names under the directory of this number, by their bytes. Answers want of memory where there is too little.
+    /// The names under the directory of this number, ascending by their bytes. Answers want of memory where there is too little.
+    #[tactic(auto, using(crate::proofs::Ascending::names_ascend))]
     pub fn names(&self, parent: u64) -> Result<Vec<Name>, OutOfMemory>
-        ensures { IfOk result (λ names. names.items ≡ names_under self.now.rows parent) }
+        ensures order { IsStrictlySortedBy (slice_cmp nat_cmp) (names_under self.now.rows parent) }
+        ensures names { IfOk result (λ names. names.items ≡ names_under self.now.rows parent) }
     {
         let mut names = Vec::new(self.alloc);
         for (key, _) in self.map.as_slice() {
@@ -96,9 +101,11 @@ impl Rows {
         Ok(names)
     }
 
-    /// The rows of this name under whatever directories, by the numbers of those. Answers want of memory where there is too little.
+    /// The rows of this name under whatever directories, ascending by the numbers of those. Answers want of memory where there is too little.
+    #[tactic(auto, using(crate::proofs::Ascending::parents_ascend))]
     pub fn rows_of(&self, name: &Name) -> Result<Vec<NamedRow>, OutOfMemory>
-        ensures { IfOk result (λ rows. rows.items ≡ rows_named self.now.rows name.now) }
+        ensures order { IsStrictlySortedBy (λ a b. nat_cmp a.parent b.parent) (rows_named self.now.rows name.now) }
+        ensures rows { IfOk result (λ rows. rows.items ≡ rows_named self.now.rows name.now) }
     {
         let mut rows = Vec::new(self.alloc);
         for (key, inode) in self.map.as_slice() {
@@ -126,53 +133,5 @@ impl Rows {
             })?;
         }
         Ok(lines)
-    }
-}
-
-#[cfg(test)]
-mod tests {
-    use super::*;
-    use fal_base::Kind;
-    use std::test::Fail;
-
-    fn key(alloc: Global, parent: u64, name: &[u8]) -> Result<Key, Fail> {
-        Ok(Key {
-            parent,
-            name: Name::read(alloc, name)?,
-        })
-    }
-
-    fn file(ino: u64) -> Inode {
-        Inode {
-            ino,
-            kind: Kind::File,
-            mode: 0o644,
-            uid: 0,
-            gid: 0,
-            size: 0,
-        }
-    }
-
-    #[test]
-    fn lists_what_was_put(rt: HostRuntime) -> Result<(), Fail> {
-        let alloc = rt.alloc();
-        let mut rows = Rows::new(alloc);
-        rows.reserve(4)?;
-        rows.put(key(alloc, 9, b"log")?, file(4));
-        rows.put(key(alloc, 2, b"log")?, file(5));
-        rows.put(key(alloc, 2, b"bin")?, file(6));
-        rows.put(key(alloc, 2, b"bin")?, file(7));
-        assert_eq!(rt; rows.children(2), 2);
-        let names = rows.names(2)?;
-        assert_eq!(rt; names.len(), 2);
-        assert_eq!(rt; names[0].bytes(), b"bin".as_slice());
-        let named = rows.rows_of(&names[1])?;
-        assert_eq!(rt; named.len(), 2);
-        assert_eq!(rt; named[1].parent, 9);
-        assert_eq!(rt; rows.all()?.len(), 3);
-        assert_eq!(rt; rows.take(&key(alloc, 2, b"bin")?), Some(file(7)));
-        assert!(rt; rows.get(&key(alloc, 2, b"bin")?).is_none());
-        assert_eq!(rt; rows.children(2), 1);
-        Ok(())
     }
 }

@@ -1,11 +1,16 @@
 -- When a fault may be told, and what was read or written by then.
-use Rattle.std.specs.Prelude.{◌≡◌, ℕ, ◌+◌, ◌-◌, ◌^◌, ◌≤◌, ◌<◌, min, List, length, take, Option, Result, Ok, Err, Vec}
+use Rattle.std.specs.Prelude.{◌≡◌, ℕ, ◌+◌, ◌-◌, ◌^◌, ◌≤◌, ◌<◌, min, Bool, true, false, List, [], length, take, Option, Some, Result, Ok, Err, Vec}
 use Rattle.std.specs.Io.KnownBytes.{Consumes, Appends, IsAtEnd}
 use Rattle.std.specs.declared.alloc.Global.{Global}
 use Rattle.fal_io.specs.declared.failed.Failed.{Failed}
 use Rattle.fal_io.specs.declared.failed.Failed.TheVariants as failed
 use Rattle.fal_io.specs.declared.read.ReadAll.{ReadAll}
 use Rattle.fal_io.specs.declared.read.ReadAll.TheVariants as read
+
+-- what a reader has left, until it has told its end
+abbrev pub left_until_end : Bool → Option (List ℕ) → Option (List ℕ)
+left_until_end true known = Some []
+left_until_end false known = known
 
 -- one more, in a count of 64 bits that stays at its end
 abbrev pub next_count : ℕ → ℕ

@@ -3,6 +3,7 @@
 //! A caller blames a fault on the outside only where the count of faults has risen.
 #![tactic(auto)]
 
+mod counted;
 mod failed;
 mod memory_sink;
 mod memory_source;
@@ -22,6 +23,3 @@ pub use sink::Sink;
 pub use source::Source;
 pub use write::{PUT_SIZE, put_all};
 pub use writer::WriterSink;
-
-#[cfg(test)]
-mod tests;

@@ -1,5 +1,5 @@
 -- How many of a list's first items pass a test.
-use Rattle.std.proofs.Common.{◌≡◌, ℕ, zero, suc, ◌+◌, ◌<◌, ◌≤◌, Bool, true, false, cond, List, [], ◌∷◌, take, count_by, Some, refl, ap, ◌∙◌, arith}
+use Rattle.std.proofs.Common.{◌≡◌, ℕ, zero, suc, ◌+◌, ◌<◌, ◌≤◌, Bool, true, false, cond, List, [], ◌∷◌, take, count_by, Some, ap, ◌∙◌, arith}
 use Rattle.std.specs.Prelude.{slice_get}
 use Rattle.std.proofs.lemmas.List.Sums.{sum_by-cons}
 use Rattle.std.proofs.lemmas.Option.{same_Some}
@@ -41,39 +41,3 @@ count_past test xs i j x e passes h =
     let more = count_more test xs i x e passes in
     let rises = count_rises test xs (suc i) j h in
     omega (arith, more, rises)
-
--- the last item before j that passes
-pub record Last {A : Type 0} (test : A → Bool) (xs : List A) (j : ℕ) : Type 0 where
-  pub place : ℕ
-  pub item : A
-  pub before : place < j
-  pub stands : slice_get xs place ≡ Some item
-  pub passes : test item ≡ true
-  pub count : count_by test (take j xs) ≡ count_by test (take place xs) + 1
-
-first_item : {A : Type 0} (test : A → Bool) (x : A) (xs : List A) (j : ℕ) → 0 < count_by test (x ∷ take j xs) → count_by test (take j xs) ≡ 0 → Last test (x ∷ xs) (suc j)
-first_item test x xs j some none =
-    elim (test x) as (λ b. test x ≡ b → Last test (x ∷ xs) (suc j)) [
-      | true ↦ λ e.
-          let one = count_yes test x (take j xs) e in
-          record { place = 0; item = x; before = omega arith; stands = refl; passes = e; count = omega (arith, one, none) }
-      | false ↦ λ e. let nothing = count_no test x (take j xs) e in absurd (omega (arith, nothing, none))
-    ] refl
-
-later_item : {A : Type 0} (test : A → Bool) (x : A) (xs : List A) (j : ℕ) → Last test xs j → Last test (x ∷ xs) (suc j)
-later_item test x xs j last =
-    let here = last.count in
-    let short = count_cons test x (take last.place xs) in
-    let long = count_cons test x (take j xs) in
-    record { place = suc last.place; item = last.item; before = omega (arith, last.before); stands = last.stands; passes = last.passes; count = omega (arith, here, short, long) }
-
-pub last_of : {A : Type 0} (test : A → Bool) (xs : List A) (j : ℕ) → 0 < count_by test (take j xs) → Last test xs j
-last_of test xs zero some = absurd (omega arith)
-last_of test [] (suc j) some = absurd (omega arith)
-last_of test (x ∷ xs) (suc j) some =
-    let more = last_of test xs j in
-    let go : (n : ℕ) → count_by test (take j xs) ≡ n → Last test (x ∷ xs) (suc j) = elim [
-      | zero ↦ λ e. first_item test x xs j some e
-      | suc n ↦ λ e. later_item test x xs j (more (omega (arith, e)))
-    ] in
-    go (count_by test (take j xs)) refl

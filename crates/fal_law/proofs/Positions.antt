@@ -1,7 +1,7 @@
 -- Where a call was sent, where its commit stands and where it was answered.
 use Rattle.std.proofs.Common.{◌≡◌, ⊎_elim, ℕ, zero, suc, ◌+◌, ◌<◌, Bool, true, false, cond, List, [], ◌∷◌, ◌++◌, take, count_by, IsSome, Some, None, Option, nat_eq, refl, sym, ap, ◌∙◌, subst, arith}
 use Rattle.std.specs.Prelude.{slice_get}
-use Rattle.std.proofs.lemmas.Bool.{cases_lt, cases_order, eqb-true, eq-eqb}
+use Rattle.std.proofs.lemmas.Bool.{cases_order, eq-eqb}
 use Rattle.std.proofs.lemmas.Option.{same_Some}
 use Rattle.fal_base.specs.declared.call.Call.{Call}
 use Rattle.fal_base.specs.declared.call.Config.{Config}
@@ -11,7 +11,7 @@ use Rattle.fal_base.specs.declared.reply.Reply.{Reply}
 use Rattle.fal_base.specs.Commits.{Commit}
 use Rattle.fal_base.specs.EachOnce.{IsOpen, IsEachOnce}
 use Rattle.fal_base.specs.Transcript.{call_of, commit_by, commits_of, is_commit, at, sents}
-use Rattle.fal_law.proofs.Counts.{count_cons, count_yes, count_no, count_rises, count_past, last_of}
+use Rattle.fal_law.proofs.Counts.{count_cons, count_yes, count_no, count_past}
 
 -- a call of this lane is sent here
 is_sent : ℕ → Entry → Bool
@@ -24,11 +24,6 @@ sents_count lane [] = refl
 sents_count lane (entry.Sent other seq ∷ entries) = ap (λ n. cond (nat_eq other lane) 1 0 + n) (sents_count lane entries) ∙ sym (count_cons (is_sent lane) (entry.Sent other seq) entries)
 sents_count lane (other ∷ entries) = let more = sents_count lane entries in let one = count_cons (is_sent lane) other entries in omega (arith, more, one)
 
-sent_of : (lane : ℕ) (x : Entry) → is_sent lane x ≡ true → (seq : ℕ) × (x ≡ entry.Sent lane seq)
-unfolding is_sent
-sent_of lane (entry.Sent other seq) e = (seq, ap (λ l. entry.Sent l seq) (eqb-true other lane e))
-sent_of lane other e = absurd (cc)
-
 sent_counts : (lane seq : ℕ) → is_sent lane (entry.Sent lane seq) ≡ true
 unfolding is_sent
 sent_counts lane seq = eq-eqb lane lane refl
@@ -37,15 +32,7 @@ sent_counts lane seq = eq-eqb lane lane refl
 sent_seq : (config : Config) (entries : List Entry) → IsEachOnce config entries → (j lane seq : ℕ) → slice_get entries j ≡ Some (entry.Sent lane seq) → seq ≡ count_by (is_sent lane) (take j entries) + 1
 sent_seq config entries once j lane seq e = (once.sent j lane seq e).0 ∙ ap (λ n. n + 1) (sents_count lane (take j entries))
 
--- a call is sent before each place at which it is its lane's last one
-pub sent_before : (config : Config) (entries : List Entry) → IsEachOnce config entries → (j c lane seq : ℕ) → slice_get entries j ≡ Some (entry.Sent lane seq) → IsOpen entries c lane seq → j < c
-sent_before config entries once j c lane seq e open_at =
-    let number = sent_seq config entries once j lane seq e in
-    let last = open_at.last in
-    let same = sents_count lane (take c entries) in
-    ⊎_elim (λ h. h) (λ h. let rises = count_rises (is_sent lane) entries c j h in absurd (omega (arith, number, last, same, rises))) (cases_lt j c)
-
--- and once
+-- a call is sent once
 pub one_sent : (config : Config) (entries : List Entry) → IsEachOnce config entries → (i j lane seq : ℕ) → slice_get entries i ≡ Some (entry.Sent lane seq) → slice_get entries j ≡ Some (entry.Sent lane seq) → i ≡ j
 one_sent config entries once i j lane seq e f =
     let first = sent_seq config entries once i lane seq e in
@@ -57,29 +44,24 @@ one_sent config entries once i j lane seq e f =
     (λ h. let past = count_past (is_sent lane) entries j i (entry.Sent lane seq) f counts h in absurd (omega (arith, first, second, past))))
     (cases_order i j)
 
+-- before each place at which it is open
+pub sent_before : (config : Config) (entries : List Entry) → IsEachOnce config entries → (j c lane seq : ℕ) → slice_get entries j ≡ Some (entry.Sent lane seq) → IsOpen entries c lane seq → j < c
+sent_before config entries once j c lane seq e open_at =
+    subst (λ i. i < c) (one_sent config entries once open_at.place j lane seq open_at.sent e) open_at.before
+
 -- a call is answered once, at one point
 pub one_answer : (config : Config) (entries : List Entry) → IsEachOnce config entries → (i j lane seq point other : ℕ) (reply answer : Reply) → slice_get entries i ≡ Some (entry.Answered lane seq point reply)
     → slice_get entries j ≡ Some (entry.Answered lane seq other answer) → i ≡ j
 one_answer config entries once i j lane seq point other reply answer e f =
     ⊎_elim (λ h. h)
     (⊎_elim
-    (λ h. absurd ((once.answered j lane seq other answer f).unanswered i point reply h e))
-    (λ h. absurd ((once.answered i lane seq point reply e).unanswered j other answer h f)))
+    (λ h. absurd ((once.answered j lane seq other answer f).0.unanswered i point reply h e))
+    (λ h. absurd ((once.answered i lane seq point reply e).0.unanswered j other answer h f)))
     (cases_order i j)
 
 -- an open call is one of the config's
 pub open_called : (config : Config) (entries : List Entry) → IsEachOnce config entries → (j lane seq : ℕ) → IsOpen entries j lane seq → IsSome (call_of config lane seq)
-open_called config entries once j lane seq open_at =
-    let same = sents_count lane (take j entries) in
-    let number = open_at.last in
-    let some = open_at.some in
-    let last = last_of (is_sent lane) entries j (omega (arith, same, number, some)) in
-    let sent = sent_of lane last.item last.passes in
-    let stands : slice_get entries last.place ≡ Some (entry.Sent lane sent.0) = last.stands ∙ ap (λ x. Some x) sent.1 in
-    let count = last.count in
-    let before = sent_seq config entries once last.place lane sent.0 stands in
-    let here : sent.0 ≡ seq = omega (arith, same, number, count, before) in
-    subst (λ s. IsSome (call_of config lane s)) here (once.sent last.place lane sent.0 stands).1
+open_called config entries once j lane seq open_at = (once.sent open_at.place lane seq open_at.sent).1
 
 -- each commit that is recorded is of a call of the config
 abbrev pub AreCalled : Config → List Entry → Type 0

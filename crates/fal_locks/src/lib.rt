@@ -8,6 +8,3 @@ mod locks;
 
 pub use holder::{Holder, Shut};
 pub use locks::{Busy, Locks};
-
-#[cfg(test)]
-mod tests;

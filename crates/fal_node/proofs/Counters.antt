@@ -1,9 +1,9 @@
 -- The change of an event that stays within the ranges takes no counter past its end.
-use Rattle.std.proofs.Common.{◌≡◌, ℕ, ◌+◌, ◌*◌, ◌<◌, ◌≤◌, ◌^◌, cond, List, [], ◌∷◌, length, None, IsTrue, refl, ap, ◌∙◌, subst, arith}
+use Rattle.std.proofs.Common.{◌≡◌, ℕ, ◌+◌, ◌<◌, ◌≤◌, ◌^◌, cond, List, [], ◌∷◌, length, None, IsTrue, refl, ap, ◌∙◌, subst, arith}
 use Rattle.fal_base.specs.declared.call.CallRec.{CallRec}
 use Rattle.fal_base.specs.declared.key.Key.{Key}
 use Rattle.fal_locks.specs.Locks.{first_shut}
-use Rattle.fal_wait.specs.Waiting.{WaitList, is_taken, with_call, without_call}
+use Rattle.fal_wait.specs.Waiting.{WaitList, is_new, with_call, without_call}
 use Rattle.fal_batch.specs.declared.parts.Wanted.{Wanted}
 use Rattle.fal_node.specs.declared.batch.BatchCall.{BatchCall}
 use Rattle.fal_node.specs.declared.patch.Patch.{Patch}
@@ -19,7 +19,7 @@ use Rattle.fal_node.specs.Step.{IsWithin}
 use Rattle.fal_node.specs.Ready.{CanHaveBatch, CanChange, CanDraft}
 use Rattle.fal_node.proofs.Pushed.{opened-with_fetches}
 
-tickets-admitted : (node : NodeState) (call : CallRec) → IsTrue (is_taken node.waiting call) → (admitted node call).waiting.tickets ≡ node.waiting.tickets + 1
+tickets-admitted : (node : NodeState) (call : CallRec) → IsTrue (is_new node.waiting call) → (admitted node call).waiting.tickets ≡ node.waiting.tickets + 1
 unfolding admitted with_call
 tickets-admitted node call taken = ap (λ b. (cond b (with_call node.waiting call) node.waiting).tickets) taken
 
@@ -44,22 +44,18 @@ unfolding with_waiting batched
 can_batch node fetches tickets [] keys below open_keys rows = tt
 can_batch node fetches tickets (c ∷ cs) keys below open_keys rows = record { number = below; open_keys = open_keys; row_calls = rows }
 
-drawn_fits : (number drawn more : ℕ) → 256 * (drawn + more + 1) + number < 2 ^ 64 → drawn + more < 2 ^ 64
-drawn_fits number drawn more below = omega arith
-
 pub can_change : (node : NodeState) (work : Work) (p : Patch) → work.node ≡ patched node p → IsWithin work → CanDraft node p → CanChange node p
 unfolding with_item with_rows with_executed
 can_change node work patch.Nothing same within can = tt
 can_change node work (patch.Admit call) same within can =
     (subst (λ k. k < 2 ^ 64) (ap (λ (n : NodeState). n.waiting.tickets) same ∙ tickets-admitted node call can.0) within.tickets, can.1)
 can_change node work (patch.Keep message) same within can = subst (λ (n : NodeState). n.items_numbered < 2 ^ 64) same within.items
-can_change node work (patch.Install fetch key dentry) same within can = tt
+can_change node work (patch.Learn fetch key dentry) same within can = tt
 can_change node work (patch.Leave fetch tickets) same within can = tt
 can_change node work (patch.Gather fetches tickets calls keys) same within can =
     let opened = ap (λ (n : NodeState). n.waiting.opened) same ∙ opened-gathered node fetches.items tickets.items calls keys.items in
     let batches = subst (λ (n : NodeState). n.batches_numbered < 2 ^ 64) same within.batches in
     (subst (λ k. k ≤ 2 ^ 64) opened within.fetches, can.0, can_batch node fetches.items tickets.items calls keys.items batches can.1 can.2)
-can_change node work (patch.Execute batch changes drawn) same within can =
-    drawn_fits node.number node.drawn drawn (subst (λ (n : NodeState). 256 * (n.drawn + 1) + n.number < 2 ^ 64) same within.numbers)
+can_change node work (patch.Execute batch changes drawn) same within can = can
 can_change node work (patch.Release batch) same within can = tt
 can_change node work (patch.Serve item) same within can = tt

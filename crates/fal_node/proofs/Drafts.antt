@@ -6,10 +6,11 @@ use Rattle.std.specs.Option.{ForSome}
 use Rattle.fal_wire.specs.Messages.{Fits}
 use Rattle.fal_node.specs.declared.draft.Draft.{Draft}
 use Rattle.fal_node.specs.declared.event.NodeEvent.{NodeEvent}
-use Rattle.fal_node.specs.declared.letter.Letter.{Letter}
+use Rattle.fal_wire.specs.declared.letter.Letter.{Letter}
 use Rattle.fal_node.specs.declared.patch.Prepared.{Prepared}
 use Rattle.fal_node.specs.State.{NodeState}
-use Rattle.fal_node.specs.Letters.{Work, output_of}
+use Rattle.fal_wire.specs.Letters.{output_of}
+use Rattle.fal_node.specs.Letters.{Work}
 use Rattle.fal_node.specs.Patch.{Seen, patched}
 use Rattle.fal_node.specs.Step.{IsWithin, StaysWithin, node_step}
 use Rattle.fal_node.specs.Ready.{CanDraft, CanPatch, HasRoom, DoesOf, IsStepOf, IsStepFor}

@@ -21,7 +21,7 @@ use Rattle.fal_node.specs.Step.{node_step}
 use Rattle.fal_node.specs.Sends.{sending_letters, next_number}
 use Rattle.fal_node.specs.Sound.{is_row_op, are_row_waiters, are_row_calls}
 use Rattle.fal_node.proofs.Within.{hop_fits}
-use Rattle.fal_node.proofs.Sound.{both, first_of_both, second_of_both}
+use Rattle.fal_wait.proofs.Ascending.{both, first_of_both, second_of_both}
 
 pub gather_letters-cons : (n : NodeState) (number : ℕ) (x : Sending) (xs : List Sending) → gather_letters n number (x ∷ xs) ≡ sending_letters n number x ++ gather_letters n (next_number number x) xs
 gather_letters-cons n number (sending.Away away) xs = refl

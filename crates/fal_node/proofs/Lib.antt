@@ -5,6 +5,7 @@ mod Steps
 mod Sound
 mod Within
 mod Counters
+mod Numbers
 mod Drafts
 pub mod Reading
 mod Opens

@@ -8,7 +8,7 @@ use Rattle.fal_base.proofs.Maps.{same_key_is}
 use Rattle.fal_dentry.specs.Walk.{is_among}
 use Rattle.fal_wait.specs.declared.waiting_call.WaitingCall.{WaitingCall}
 use Rattle.fal_wait.specs.Lists.{has_number}
-use Rattle.fal_wait.specs.Waiting.{WaitList, on_fetch, after_open}
+use Rattle.fal_wait.specs.Waiting.{WaitList, IsNumbered, are_rising, on_fetch, after_open}
 use Rattle.fal_batch.specs.declared.parts.Wanted.{Wanted}
 use Rattle.fal_batch.specs.Fate.{Setting, Fate, Skips, Leaves, Waits, Joins, fate}
 use Rattle.fal_batch.specs.Keys.{are_distinct}
@@ -17,8 +17,7 @@ use Rattle.fal_batch.proofs.FreeCalls.{free_of, free_calls_are}
 use Rattle.fal_batch.proofs.Shared.{shared_of}
 use Rattle.fal_batch.proofs.Truth.{both, both_first, both_second, neither, neither_first, neither_second, not_true}
 use Rattle.fal_node.specs.Ready.{CanOpen}
-use Rattle.fal_node.specs.Sound.{are_rising, IsSoundList}
-use Rattle.fal_node.proofs.Sound.{sound_open}
+use Rattle.fal_wait.proofs.Numbered.{open_numbered}
 
 -- tickets
 
@@ -195,7 +194,7 @@ module _ (s : Setting) where
         groups_of us free (both_second (not (is_among u.key (keys_of us))) (are_distinct (keys_of us)) one) others,
       )
 
-  opens : (fetches : List Wanted) (list : WaitList) → IsSoundList list → are_distinct (keys_of fetches) ≡ true → AreGroups fetches (free_of list.calls) → CanOpen list fetches
+  opens : (fetches : List Wanted) (list : WaitList) → IsNumbered list → are_distinct (keys_of fetches) ≡ true → AreGroups fetches (free_of list.calls) → CanOpen list fetches
   unfolding after_open
   opens [] list sound one h = tt
   opens (u ∷ us) list sound one h =
@@ -206,11 +205,11 @@ module _ (s : Setting) where
       let alone = not_true (is_among u.key (keys_of us)) (both_first (not (is_among u.key (keys_of us))) (are_distinct (keys_of us)) one) in
       let left = free_after list.opened u.waiters list.calls ∙ others_left u.waiters waits free those in (
         h.0 ∙ sym (numbers_left u.waiters waits free those),
-        opens us (after_open list u.key u.waiters) (sound_open list u.key u.waiters sound) (both_second (not (is_among u.key (keys_of us))) (are_distinct (keys_of us)) one)
+        opens us (after_open list u.key u.waiters) (open_numbered list u.key u.waiters sound) (both_second (not (is_among u.key (keys_of us))) (are_distinct (keys_of us)) one)
             (subst (λ ws. AreGroups us ws) (sym left) (groups_without u.key us free alone h.1)),
       )
 
-  pub can_open_plan : (list : WaitList) → IsSoundList list → CanOpen list (plan_of s list).fetches
+  pub can_open_plan : (list : WaitList) → IsNumbered list → CanOpen list (plan_of s list).fetches
   can_open_plan list sound =
       let shared = shared_of s list in
       let free = free_calls_are list (rising_differ list.calls list.tickets sound.tickets) in

@@ -1,5 +1,6 @@
 -- One more at the end of a list of changes.
-use Rattle.std.proofs.Common.{◌≡◌, ◌+◌, List, [], ◌∷◌, ◌++◌, length, refl, arith}
+use Rattle.std.proofs.Common.{◌≡◌, ◌+◌, List, [], ◌∷◌, ◌++◌, length, cond, refl, arith}
+use Rattle.std.proofs.lemmas.List.Sums.{sum_by_push}
 use Rattle.fal_base.specs.Tree.{Tree}
 use Rattle.fal_wait.specs.Lists.{IsPartOf}
 use Rattle.fal_wait.specs.Waiting.{WaitList, free_tickets, after_open}
@@ -7,7 +8,7 @@ use Rattle.fal_wait.proofs.Bounds.{opened-after_open}
 use Rattle.fal_batch.specs.declared.parts.Wanted.{Wanted}
 use Rattle.fal_node.specs.declared.patch.RowChange.{RowChange}
 use Rattle.fal_node.specs.Exec.{rows_after}
-use Rattle.fal_node.specs.Patch.{rows_changed}
+use Rattle.fal_node.specs.Patch.{is_put, puts_in, rows_changed}
 use Rattle.fal_node.specs.Gather.{with_fetches}
 use Rattle.fal_node.specs.Ready.{CanOpen}
 
@@ -33,3 +34,6 @@ opened-with_fetches list (x ∷ fs) =
     let rest = opened-with_fetches (after_open list x.key x.waiters) fs in
     let here = opened-after_open list x.key x.waiters in
     omega arith
+
+pub puts_in-push : (cs : List RowChange) (c : RowChange) → puts_in (cs ++ c ∷ []) ≡ puts_in cs + (cond (is_put c.change) 1 0)
+puts_in-push cs c = sum_by_push (λ (x : RowChange). cond (is_put x.change) 1 0) cs c

@@ -6,7 +6,7 @@ use Rattle.fal_base.specs.declared.inode.Inode.{Inode}
 use Rattle.fal_exec.specs.declared.outcome.Change.TheVariants as change
 use Rattle.fal_exec.specs.declared.outcome.ExecOut.{ExecOut}
 use Rattle.fal_node.specs.declared.batch.BatchCall.{BatchCall}
-use Rattle.fal_node.specs.declared.letter.Letter.{Letter}
+use Rattle.fal_wire.specs.declared.letter.Letter.{Letter}
 use Rattle.fal_node.specs.declared.patch.RowChange.{RowChange}
 use Rattle.fal_node.specs.State.{NodeState}
 use Rattle.fal_node.specs.Letters.{Work, commits_in}

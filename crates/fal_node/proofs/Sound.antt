@@ -7,47 +7,20 @@ use Rattle.fal_base.specs.declared.key.Key.{Key}
 use Rattle.fal_locks.specs.Locks.{LockTable, has_holder, first_shut, with_holder, without_holder}
 use Rattle.fal_locks.specs.declared.holder.Holder.{Holder}
 use Rattle.fal_wait.specs.declared.waiting_call.WaitingCall.{WaitingCall}
-use Rattle.fal_wait.specs.Lists.{without_first, has_number}
-use Rattle.fal_wait.specs.Waiting.{WaitList, with_call, after_admit, is_taken, without_call, after_open, on_fetch, off_fetch, waits_on, without_fetch, after_settle, settled_by, fetch_of}
+use Rattle.fal_wait.specs.Lists.{are_ascending, without_first, has_number}
+use Rattle.fal_wait.specs.Waiting.{WaitList, with_call, after_admit, is_new, without_call, after_open, on_fetch, off_fetch, waits_on, without_fetch, after_settle, settled_by, fetch_of}
 use Rattle.fal_batch.specs.declared.parts.Wanted.{Wanted}
 use Rattle.fal_node.specs.declared.batch.Batch.{Batch}
 use Rattle.fal_node.specs.declared.batch.BatchCall.{BatchCall}
+use Rattle.fal_node.specs.declared.item.Item.{Item}
 use Rattle.fal_node.specs.Deliver.{without_calls}
 use Rattle.fal_node.specs.State.{NodeState}
 use Rattle.fal_node.specs.Patch.{Room}
 use Rattle.fal_node.specs.Ready.{CanHaveBatch, HasRoomForBatch}
 use Rattle.fal_node.specs.Gather.{with_fetches, with_waiting}
 use Rattle.fal_node.specs.Exec.{as_executed}
-use Rattle.fal_node.specs.Sound.{is_row_op, are_row_calls, are_row_batches, are_rising, are_holders_below, IsSoundList}
-
-pub both : (a b : Bool) → a ≡ true → b ≡ true → (a && b) ≡ true
-both true b h k = k
-both false b h k = absurd (cc)
-
-pub first_of_both : (a b : Bool) → (a && b) ≡ true → a ≡ true
-first_of_both true b h = refl
-first_of_both false b h = absurd (cc)
-
-pub second_of_both : (a b : Bool) → (a && b) ≡ true → b ≡ true
-second_of_both true b h = h
-second_of_both false b h = absurd (cc)
-
-pub all_push : {X : Type 0} (p : X → Bool) (xs : List X) (x : X) → list_all p xs ≡ true → p x ≡ true → list_all p (xs ++ x ∷ []) ≡ true
-all_push p [] x h k = both (p x) true k refl
-all_push p (y ∷ ys) x h k = both (p y) (list_all p (ys ++ x ∷ [])) (first_of_both (p y) (list_all p ys) h) (all_push p ys x (second_of_both (p y) (list_all p ys) h) k)
-
-pub all_map : {X : Type 0} (p : X → Bool) (f : X → X) → ((x : X) → p (f x) ≡ p x) → (xs : List X) → list_all p (map f xs) ≡ list_all p xs
-all_map p f same [] = refl
-all_map p f same (x ∷ xs) = ap (λ b. b && list_all p (map f xs)) (same x) ∙ ap (λ b. p x && b) (all_map p f same xs)
-
-pub all_without : {X : Type 0} (p test : X → Bool) (xs : List X) → list_all p xs ≡ true → list_all p (without_first test xs) ≡ true
-all_without p test [] h = h
-all_without p test (x ∷ xs) h =
-    let rest = second_of_both (p x) (list_all p xs) h in
-    elim (test x) as (λ b. list_all p (cond b xs (x ∷ without_first test xs)) ≡ true) [
-      | true ↦ rest
-      | false ↦ both (p x) (list_all p (without_first test xs)) (first_of_both (p x) (list_all p xs) h) (all_without p test xs rest)
-    ]
+use Rattle.fal_node.specs.Sound.{is_row_op, are_row_waiters, are_row_calls, are_row_batches, are_holders_below, AreItems, AreBatches}
+use Rattle.fal_wait.proofs.Ascending.{both, first_of_both, second_of_both, all_push, all_map, all_without, below_more, below_next, ascending_map, ascending_without, ascending_push}
 
 pub all_filter : {X : Type 0} (p test : X → Bool) (xs : List X) → list_all p xs ≡ true → list_all p (filter test xs) ≡ true
 all_filter p test [] h = h
@@ -58,117 +31,71 @@ all_filter p test (x ∷ xs) h =
       | false ↦ rest
     ]
 
--- the tickets of a list that keeps its tickets
-rising_map : (f : WaitingCall → WaitingCall) → ((w : WaitingCall) → (f w).ticket ≡ w.ticket) → (ws : List WaitingCall) (end : ℕ) → are_rising (map f ws) end ≡ are_rising ws end
-rising_map f same [] end = refl
-rising_map f same (w ∷ ws) end =
-    let later : list_all (λ x. nat_lt (f w).ticket x.ticket) (map f ws) ≡ list_all (λ x. nat_lt w.ticket x.ticket) ws =
-    ap (λ n. list_all (λ x. nat_lt n x.ticket) (map f ws)) (same w) ∙ all_map (λ x. nat_lt w.ticket x.ticket) f (λ x. ap (λ n. nat_lt w.ticket n) (same x)) ws in
-    let here : nat_lt (f w).ticket end ≡ nat_lt w.ticket end = ap (λ n. nat_lt n end) (same w) in
-    λ i. later i && (here i && rising_map f same ws end i)
-
-rising_without : (test : WaitingCall → Bool) (ws : List WaitingCall) (end : ℕ) → are_rising ws end ≡ true → are_rising (without_first test ws) end ≡ true
-rising_without test [] end h = h
-rising_without test (w ∷ ws) end h =
-    let later = first_of_both (list_all (λ x. nat_lt w.ticket x.ticket) ws) (nat_lt w.ticket end && are_rising ws end) h in
-    let more = second_of_both (list_all (λ x. nat_lt w.ticket x.ticket) ws) (nat_lt w.ticket end && are_rising ws end) h in
-    let here = first_of_both (nat_lt w.ticket end) (are_rising ws end) more in
-    let rest = second_of_both (nat_lt w.ticket end) (are_rising ws end) more in
-    elim (test w) as (λ b. are_rising (cond b ws (w ∷ without_first test ws)) end ≡ true) [
-      | true ↦ rest
-      | false ↦ both (list_all (λ x. nat_lt w.ticket x.ticket) (without_first test ws)) (nat_lt w.ticket end && are_rising (without_first test ws) end) (all_without (λ x. nat_lt w.ticket x.ticket) test ws later)
-          (both (nat_lt w.ticket end) (are_rising (without_first test ws) end) here (rising_without test ws end rest))
-    ]
-
-below_more : (a b : ℕ) → nat_lt a b ≡ true → nat_lt a (b + 1) ≡ true
-below_more a b h = grind (arith, nat_tests)
-
-below_next : (a : ℕ) → nat_lt a (a + 1) ≡ true
-below_next a = grind (arith, nat_tests)
-
-rising_push : (ws : List WaitingCall) (w : WaitingCall) → are_rising ws w.ticket ≡ true → are_rising (ws ++ w ∷ []) (w.ticket + 1) ≡ true
-rising_push [] w h = both (nat_lt w.ticket (w.ticket + 1)) true (below_next w.ticket) refl
-rising_push (x ∷ xs) w h =
-    let later = first_of_both (list_all (λ y. nat_lt x.ticket y.ticket) xs) (nat_lt x.ticket w.ticket && are_rising xs w.ticket) h in
-    let more = second_of_both (list_all (λ y. nat_lt x.ticket y.ticket) xs) (nat_lt x.ticket w.ticket && are_rising xs w.ticket) h in
-    let here = first_of_both (nat_lt x.ticket w.ticket) (are_rising xs w.ticket) more in
-    let rest = second_of_both (nat_lt x.ticket w.ticket) (are_rising xs w.ticket) more in
-    both (list_all (λ y. nat_lt x.ticket y.ticket) (xs ++ w ∷ [])) (nat_lt x.ticket (w.ticket + 1) && are_rising (xs ++ w ∷ []) (w.ticket + 1)) (all_push (λ y. nat_lt x.ticket y.ticket) xs w later here)
-    (both (nat_lt x.ticket (w.ticket + 1)) (are_rising (xs ++ w ∷ []) (w.ticket + 1)) (below_more x.ticket w.ticket here) (rising_push xs w rest))
-
 -- waiting calls
 
-pub sound_admit : (list : WaitList) (call : CallRec) → IsSoundList list → IsTrue (is_row_op call.op) → IsSoundList (after_admit list call)
+pub sound_admit : (list : WaitList) (call : CallRec) → are_row_waiters list.calls ≡ true → IsTrue (is_row_op call.op) → are_row_waiters (after_admit list call).calls ≡ true
 unfolding with_call
 sound_admit list call sound row =
     let w : WaitingCall = record { ticket = list.tickets; call = call; fetch = None } in
-    elim (is_taken list call) as (λ b. IsSoundList (cond b (with_call list call) list)) [
-      | true ↦ record {
-        row_calls = all_push (λ (x : WaitingCall). is_row_op x.call.op) list.calls w sound.row_calls row;
-        tickets = rising_push list.calls w sound.tickets;
-      }
+    elim (is_new list call) as (λ b. are_row_waiters (cond b (with_call list call) list).calls ≡ true) [
+      | true ↦ all_push (λ (x : WaitingCall). is_row_op x.call.op) list.calls w sound row
       | false ↦ sound
     ]
 
-pub sound_without : (list : WaitList) (ticket : ℕ) → IsSoundList list → IsSoundList (without_call list ticket)
-sound_without list ticket sound = record {
-  row_calls = all_without (λ (x : WaitingCall). is_row_op x.call.op) (λ x. x.ticket == ticket) list.calls sound.row_calls;
-  tickets = rising_without (λ x. x.ticket == ticket) list.calls list.tickets sound.tickets;
-}
-
-pub sound_withouts : (list : WaitList) (tickets : List ℕ) → IsSoundList list → IsSoundList (without_calls list tickets)
+pub sound_withouts : (list : WaitList) (tickets : List ℕ) → are_row_waiters list.calls ≡ true → are_row_waiters (without_calls list tickets).calls ≡ true
 sound_withouts list [] sound = sound
-sound_withouts list (t ∷ ts) sound = sound_withouts (without_call list t) ts (sound_without list t sound)
-
-ticket-on_fetch : (number : ℕ) (waiters : List ℕ) (w : WaitingCall) → (on_fetch number waiters w).ticket ≡ w.ticket
-ticket-on_fetch number waiters w = elim (has_number waiters w.ticket) as (λ b. (cond b (record w { fetch = Some number }) w).ticket ≡ w.ticket) [ true ↦ refl | false ↦ refl ]
+sound_withouts list (t ∷ ts) sound = sound_withouts (without_call list t) ts (all_without (λ (x : WaitingCall). is_row_op x.call.op) (λ x. x.ticket == t) list.calls sound)
 
 call-on_fetch : (number : ℕ) (waiters : List ℕ) (w : WaitingCall) → (on_fetch number waiters w).call ≡ w.call
 call-on_fetch number waiters w = elim (has_number waiters w.ticket) as (λ b. (cond b (record w { fetch = Some number }) w).call ≡ w.call) [ true ↦ refl | false ↦ refl ]
 
-ticket-off_fetch : (number : ℕ) (w : WaitingCall) → (off_fetch number w).ticket ≡ w.ticket
-ticket-off_fetch number w = elim (waits_on number w.fetch) as (λ b. (cond b (record w { fetch = None }) w).ticket ≡ w.ticket) [ true ↦ refl | false ↦ refl ]
-
 call-off_fetch : (number : ℕ) (w : WaitingCall) → (off_fetch number w).call ≡ w.call
 call-off_fetch number w = elim (waits_on number w.fetch) as (λ b. (cond b (record w { fetch = None }) w).call ≡ w.call) [ true ↦ refl | false ↦ refl ]
 
-pub sound_open : (list : WaitList) (key : Key) (waiters : List ℕ) → IsSoundList list → IsSoundList (after_open list key waiters)
+pub sound_opens : (list : WaitList) (fetches : List Wanted) → are_row_waiters list.calls ≡ true → are_row_waiters (with_fetches list fetches).calls ≡ true
 unfolding after_open
-sound_open list key waiters sound = record {
-  row_calls = all_map (λ (x : WaitingCall). is_row_op x.call.op) (λ w. on_fetch list.opened waiters w) (λ w. ap (λ (k : CallRec). is_row_op k.op) (call-on_fetch list.opened waiters w)) list.calls ∙ sound.row_calls;
-  tickets = rising_map (λ w. on_fetch list.opened waiters w) (λ w. ticket-on_fetch list.opened waiters w) list.calls list.tickets ∙ sound.tickets;
-}
-
-pub sound_opens : (list : WaitList) (fetches : List Wanted) → IsSoundList list → IsSoundList (with_fetches list fetches)
 sound_opens list [] sound = sound
-sound_opens list (f ∷ fs) sound = sound_opens (after_open list f.key f.waiters) fs (sound_open list f.key f.waiters sound)
+sound_opens list (f ∷ fs) sound =
+    sound_opens (after_open list f.key f.waiters) fs
+    (all_map (λ (x : WaitingCall). is_row_op x.call.op) (λ w. on_fetch list.opened f.waiters w) (λ w. ap (λ (k : CallRec). is_row_op k.op) (call-on_fetch list.opened f.waiters w)) list.calls ∙ sound)
 
-sound_free : (list : WaitList) (number : ℕ) → IsSoundList list → IsSoundList (without_fetch list number)
+sound_free : (list : WaitList) (number : ℕ) → are_row_waiters list.calls ≡ true → are_row_waiters (without_fetch list number).calls ≡ true
 unfolding without_fetch
-sound_free list number sound = record {
-  row_calls = all_map (λ (x : WaitingCall). is_row_op x.call.op) (λ w. off_fetch number w) (λ w. ap (λ (k : CallRec). is_row_op k.op) (call-off_fetch number w)) list.calls ∙ sound.row_calls;
-  tickets = rising_map (λ w. off_fetch number w) (λ w. ticket-off_fetch number w) list.calls list.tickets ∙ sound.tickets;
-}
+sound_free list number sound =
+    all_map (λ (x : WaitingCall). is_row_op x.call.op) (λ w. off_fetch number w) (λ w. ap (λ (k : CallRec). is_row_op k.op) (call-off_fetch number w)) list.calls ∙ sound
 
-pub sound_settle : (list : WaitList) (number : ℕ) → IsSoundList list → IsSoundList (after_settle list number)
-sound_settle list number sound = elim (fetch_of list number) as (λ f. IsSoundList (settled_by list number f)) [ None ↦ sound | Some f ↦ sound_free list number sound ]
+pub sound_settle : (list : WaitList) (number : ℕ) → are_row_waiters list.calls ≡ true → are_row_waiters (after_settle list number).calls ≡ true
+sound_settle list number sound = elim (fetch_of list number) as (λ f. are_row_waiters (settled_by list number f).calls ≡ true) [ None ↦ sound | Some f ↦ sound_free list number sound ]
+
+-- items
+
+pub item_kept : (items : List Item) (end : ℕ) (item : Item) → AreItems items end → item.number ≡ end → AreItems (items ++ item ∷ []) (end + 1)
+item_kept items end item items_are is = subst (λ n. AreItems (items ++ item ∷ []) (n + 1)) is (ascending_push (λ (i : Item). i.number) items item (subst (AreItems items) (sym is) items_are))
+
+pub item_served : (items : List Item) (end number : ℕ) → AreItems items end → AreItems (without_first (λ item. item.number == number) items) end
+item_served items end number items_are = ascending_without (λ (i : Item). i.number) (λ item. item.number == number) items end items_are
 
 -- batches
 
 calls-as_executed : (number : ℕ) (batch : Batch) → (as_executed number batch).calls ≡ batch.calls
 calls-as_executed number batch = elim (batch.number == number) as (λ b. (cond b (record batch { executed = true }) batch).calls ≡ batch.calls) [ true ↦ refl | false ↦ refl ]
 
-pub batches_executed : (batches : List Batch) (number : ℕ) → are_row_batches batches ≡ true → are_row_batches (map (as_executed number) batches) ≡ true
-batches_executed batches number sound = all_map (λ batch. are_row_calls batch.calls) (as_executed number) (λ batch. ap are_row_calls (calls-as_executed number batch)) batches ∙ sound
+number-as_executed : (number : ℕ) (batch : Batch) → (as_executed number batch).number ≡ batch.number
+number-as_executed number batch = elim (batch.number == number) as (λ b. (cond b (record batch { executed = true }) batch).number ≡ batch.number) [ true ↦ refl | false ↦ refl ]
 
-pub batches_without : (batches : List Batch) (number : ℕ) → are_row_batches batches ≡ true → are_row_batches (without_first (λ batch. batch.number == number) batches) ≡ true
-batches_without batches number sound = all_without (λ batch. are_row_calls batch.calls) (λ batch. batch.number == number) batches sound
+pub batches_executed : (batches : List Batch) (locks : LockTable) (end number : ℕ) → AreBatches batches locks end → AreBatches (map (as_executed number) batches) locks end
+batches_executed batches locks end number sound = record {
+  row_calls = all_map (λ batch. are_row_calls batch.calls) (as_executed number) (λ batch. ap are_row_calls (calls-as_executed number batch)) batches ∙ sound.row_calls;
+  numbers = ascending_map (λ (batch : Batch). batch.number) (as_executed number) (λ batch. number-as_executed number batch) batches end ∙ sound.numbers;
+  holders = sound.holders;
+}
 
-pub holders_without : (locks : LockTable) (number end : ℕ) → are_holders_below locks end ≡ true → are_holders_below (without_holder locks number) end ≡ true
-holders_without locks number end sound = all_filter (λ holder. nat_lt holder.number end) (λ holder. not (holder.number == number)) locks.holders sound
-
-pub batches_with : (batches : List Batch) (batch : Batch) → are_row_batches batches ≡ true → are_row_calls batch.calls ≡ true → are_row_batches (batches ++ batch ∷ []) ≡ true
-batches_with batches batch sound row = all_push (λ (b : Batch). are_row_calls b.calls) batches batch sound row
+pub batches_without : (batches : List Batch) (locks : LockTable) (end number : ℕ) → AreBatches batches locks end → AreBatches (without_first (λ batch. batch.number == number) batches) (without_holder locks number) end
+batches_without batches locks end number sound = record {
+  row_calls = all_without (λ batch. are_row_calls batch.calls) (λ batch. batch.number == number) batches sound.row_calls;
+  numbers = ascending_without (λ (batch : Batch). batch.number) (λ batch. batch.number == number) batches end sound.numbers;
+  holders = all_filter (λ holder. nat_lt holder.number end) (λ holder. not (holder.number == number)) locks.holders sound.holders;
+}
 
 not_itself : (a b : ℕ) → nat_lt a b ≡ true → (a == b) ≡ false
 not_itself a b h = grind (arith, nat_tests)
@@ -189,10 +116,17 @@ all_below_more (x ∷ hs) end h =
     (below_more x.number end (first_of_both (nat_lt x.number end) (list_all (λ holder. nat_lt holder.number end) hs) h))
     (all_below_more hs end (second_of_both (nat_lt x.number end) (list_all (λ holder. nat_lt holder.number end) hs) h))
 
-pub holders_with : (locks : LockTable) (end : ℕ) (keys : List Key) → are_holders_below locks end ≡ true → are_holders_below (with_holder locks end keys) (end + 1) ≡ true
-holders_with locks end keys h =
+-- one more batch, which holds its keys
+pub batches_with : (batches : List Batch) (locks : LockTable) (end : ℕ) (batch : Batch) (keys : List Key) → AreBatches batches locks end → batch.number ≡ end → are_row_calls batch.calls ≡ true
+    → AreBatches (batches ++ batch ∷ []) (with_holder locks end keys) (end + 1)
+batches_with batches locks end batch keys sound is row =
     let holder : Holder = record { number = end; keys = keys } in
-    all_push (λ (x : Holder). nat_lt x.number (end + 1)) locks.holders holder (all_below_more locks.holders end h) (below_next end)
+    record {
+      row_calls = all_push (λ (b : Batch). are_row_calls b.calls) batches batch sound.row_calls row;
+      numbers = subst (λ n. are_ascending (λ (b : Batch). b.number) (batches ++ batch ∷ []) (n + 1) ≡ true) is
+          (ascending_push (λ (b : Batch). b.number) batches batch (subst (λ n. are_ascending (λ (b : Batch). b.number) batches n ≡ true) (sym is) sound.numbers));
+      holders = all_push (λ (x : Holder). nat_lt x.number (end + 1)) locks.holders holder (all_below_more locks.holders end sound.holders) (below_next end);
+    }
 
 -- what a batch needs is there still after fetches were opened and calls have left
 pub can_have_batch_kept : (s t : NodeState) (fetches : List Wanted) (tickets : List ℕ) → t ≡ with_waiting s fetches tickets → (calls : List BatchCall) (keys : List Key) → CanHaveBatch s calls keys → CanHaveBatch t calls keys

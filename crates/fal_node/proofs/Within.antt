@@ -1,10 +1,13 @@
 -- Where the work of a whole batch is within the ranges, so is each of its calls.
-use Rattle.std.proofs.Common.{◌≡◌, ℕ, suc, ◌+◌, ◌<◌, ◌≤◌, ◌^◌, List, [], ◌∷◌, ◌++◌, refl, sym, ap, ◌∙◌, subst, arith, append-nil, append_assoc}
-use Rattle.std.specs.List.{All}
+use Rattle.std.proofs.Common.{◌≡◌, ℕ, suc, ◌+◌, ◌<◌, ◌≤◌, ◌^◌, Bool, true, false, ◌||◌, cond, nat_lt, List, [], ◌∷◌, ◌++◌, refl, sym, ap, ◌∙◌, subst, arith, append-nil, append_assoc}
+use Rattle.std.specs.List.{All, list_any}
+use Rattle.std.proofs.lemmas.Bool.Decides.{nat_tests}
 use Rattle.std.proofs.lemmas.List.Elements.{All-head}
 use Rattle.fal_base.specs.declared.call.CallRec.{CallRec}
 use Rattle.fal_base.specs.declared.event.Note.{Note}
 use Rattle.fal_base.specs.declared.event.Note.TheVariants as note
+use Rattle.fal_exec.specs.declared.outcome.Change.{Change}
+use Rattle.fal_exec.specs.declared.outcome.Change.TheVariants as change
 use Rattle.fal_exec.specs.declared.outcome.ExecOut.{ExecOut}
 use Rattle.fal_exec.specs.declared.outcome.ExecOut.TheVariants as out
 use Rattle.fal_wire.specs.declared.message.Message.TheVariants as message
@@ -12,14 +15,14 @@ use Rattle.fal_wire.specs.Messages.{Fits, FieldsFit}
 use Rattle.fal_wire.specs.Ops.{call_field}
 use Rattle.fal_wire.specs.Numbers.{id_field}
 use Rattle.fal_node.specs.declared.batch.BatchCall.{BatchCall}
-use Rattle.fal_node.specs.declared.letter.Letter.{Letter}
+use Rattle.fal_wire.specs.declared.letter.Letter.{Letter}
 use Rattle.fal_node.specs.declared.exec.Run.{Run}
 use Rattle.fal_node.specs.State.{NodeState}
 use Rattle.fal_node.specs.Letters.{Work, begun, commits_in}
 use Rattle.fal_node.specs.Patch.{rows_changed, with_rows}
 use Rattle.fal_node.specs.Runs.{run_work}
-use Rattle.fal_node.specs.Exec.{with_executed, number_after, answer_letter, call_outcome, change_of, commit_notes, exec_as, exec_one, exec_all}
-use Rattle.fal_node.specs.Step.{IsWithin}
+use Rattle.fal_node.specs.Exec.{with_executed, number_after, is_making, answer_letter, call_outcome, change_of, drawn_by, commit_notes, exec_as, exec_one, exec_all}
+use Rattle.fal_node.specs.Step.{IsWithin, is_numbered}
 use Rattle.fal_node.proofs.Runs.{work_of}
 
 -- a call that is in its ranges has a hop of four bytes
@@ -85,14 +88,45 @@ commits_grow w (p ∷ ps) =
     let h = commits_grow (exec_one w p) ps in
     omega arith
 
-pub number_now : (n : NodeState) (run : Run) (p : BatchCall) (ps : List BatchCall) → IsWithin (exec_all (run_work n run) (p ∷ ps)) → number_after n.number (n.drawn + run.drawn) < 2 ^ 64
-unfolding with_rows with_executed
-number_now n run p ps h =
-    let w : Work = run_work n run in
-    let grows = drawn_grows w (p ∷ ps) in
-    let same = number_same w (p ∷ ps) in
-    let below = h.numbers in
+any_front : {X : Type 0} (test : X → Bool) (xs ys : List X) → list_any test xs ≡ true → list_any test (xs ++ ys) ≡ true
+any_front test [] ys h = absurd (cc)
+any_front test (x ∷ xs) ys h = elim (test x) as (λ b. (b || list_any test xs) ≡ true → (b || list_any test (xs ++ ys)) ≡ true) [ true ↦ λ _. refl | false ↦ λ later. any_front test xs ys later ] h
+
+any_back : {X : Type 0} (test : X → Bool) (xs ys : List X) → list_any test ys ≡ true → list_any test (xs ++ ys) ≡ true
+any_back test [] ys h = h
+any_back test (x ∷ xs) ys h = elim (test x) as (λ b. (b || list_any test (xs ++ ys)) ≡ true) [ true ↦ refl | false ↦ any_back test xs ys h ]
+
+-- a number that is drawn is noted
+numbered_one : (call : CallRec) (fresh : ℕ) (change : Change) → 0 < fresh → 0 < drawn_by call.op change → list_any is_numbered (commit_notes call fresh change) ≡ true
+numbered_one call fresh change.Keep some draws = absurd (omega arith)
+numbered_one call fresh (change.Put inode) some draws =
+    elim (is_making call.op) as (λ b. 0 < cond b 1 0 → (nat_lt 0 (cond b fresh 0) || false) ≡ true) [ true ↦ λ _. grind (arith, nat_tests) | false ↦ λ none. absurd (omega arith) ] draws
+numbered_one call fresh change.Remove some draws = absurd (omega arith)
+
+numbered_grow : (w : Work) (calls : List BatchCall) → list_any is_numbered w.notes ≡ true → list_any is_numbered (exec_all w calls).notes ≡ true
+unfolding exec_one exec_as
+numbered_grow w [] h = h
+numbered_grow w (p ∷ ps) h =
+    numbered_grow (exec_one w p) ps
+    (any_front is_numbered w.notes (commit_notes p.call (number_after w.node.number w.node.drawn) (change_of (call_outcome w.node.number w.node.rows w.node.drawn p))) h)
+
+-- where the next call draws a number, it fits
+next_fits : (w : Work) (p : BatchCall) (ps : List BatchCall) → IsWithin (exec_all w (p ∷ ps)) → 0 < drawn_by p.call.op (change_of (call_outcome w.node.number w.node.rows w.node.drawn p))
+    → number_after w.node.number w.node.drawn < 2 ^ 64
+unfolding exec_one exec_as
+next_fits w p ps h draws =
+    let change = change_of (call_outcome w.node.number w.node.rows w.node.drawn p) in
+    let fresh = number_after w.node.number w.node.drawn in
+    let noted = any_back is_numbered w.notes (commit_notes p.call fresh change) (numbered_one p.call fresh change (omega arith) draws) in
+    let below = h.numbers (numbered_grow (exec_one w p) ps noted) in
+    let grows = drawn_grows (exec_one w p) ps in
+    let same = number_same (exec_one w p) ps in
     omega arith
+
+pub number_now : (n : NodeState) (run : Run) (p : BatchCall) (ps : List BatchCall) → IsWithin (exec_all (run_work n run) (p ∷ ps))
+    → 0 < drawn_by p.call.op (change_of (call_outcome n.number (rows_changed n.rows run.changes.items) (n.drawn + run.drawn) p)) → number_after n.number (n.drawn + run.drawn) < 2 ^ 64
+unfolding with_rows with_executed
+number_now n run p ps h draws = next_fits (run_work n run) p ps h draws
 
 pub hop_now : (n : NodeState) (run : Run) (p : BatchCall) (ps : List BatchCall) → IsWithin (exec_all (run_work n run) (p ∷ ps))
     → call_outcome n.number (rows_changed n.rows run.changes.items) (n.drawn + run.drawn) p ≡ out.PassOn → p.call.id.hop + 1 < 2 ^ 32

@@ -18,9 +18,9 @@ use Rattle.fal_wire.specs.declared.message.Found.TheVariants as found
 use Rattle.fal_wire.specs.declared.message.Message.{Message}
 use Rattle.fal_wire.specs.declared.message.Message.TheVariants as message
 use Rattle.fal_wire.specs.Messages.{reading}
-use Rattle.fal_node.specs.declared.letter.Letter.{Letter}
+use Rattle.fal_wire.specs.declared.letter.Letter.{Letter}
 use Rattle.fal_node.specs.State.{NodeState, with_item}
-use Rattle.fal_node.specs.Letters.{Work, begun, reply_letter}
+use Rattle.fal_node.specs.Letters.{Work, begun, reply_letter, is_asker}
 
 -- the call is admitted
 unfoldable pub admitted : NodeState → CallRec → NodeState
@@ -29,6 +29,10 @@ admitted node call = record node { waiting = after_admit node.waiting call }
 -- a call that one row decides is admitted; a rmdir, rename or place is the coordinator's, and changes nothing
 abbrev pub take_call : NodeState → CallRec → NodeState
 take_call node call = if is_some (row_names call.op) then admitted node call else node
+
+-- a question is kept, to be served later. One by an asker that is not there changes nothing, since its answer would go to nobody
+abbrev pub take_question : NodeState → ℕ → ℕ → Key → NodeState
+take_question node asker number key = if is_asker node.table.nodes asker then with_item node (message.FetchAsk asker number key) else node
 
 -- the fetch is settled, and the directory is installed: its waiters are free
 unfoldable pub installed : NodeState → ℕ → Key → Dentry → NodeState
@@ -74,7 +78,7 @@ settle_pending node point key what (Some fetch) = settle node point key what fet
 -- by the kind of the record
 abbrev pub take_message : NodeState → ℕ → Message → Work
 take_message node point (message.Call call) = begun (take_call node call)
-take_message node point (message.FetchAsk asker number key) = begun (with_item node (message.FetchAsk asker number key))
+take_message node point (message.FetchAsk asker number key) = begun (take_question node asker number key)
 take_message node point (message.FetchGot number key what) = settle_pending node point key what (fetch_of node.waiting number)
 take_message node point (message.Reply id reply) = begun node
 take_message node point (message.Stale id old new changes) = begun node

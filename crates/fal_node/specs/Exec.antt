@@ -19,9 +19,10 @@ use Rattle.fal_exec.specs.Outcome.{kept, outcome_of}
 use Rattle.fal_wire.specs.declared.message.Message.TheVariants as message
 use Rattle.fal_node.specs.declared.batch.Batch.{Batch}
 use Rattle.fal_node.specs.declared.batch.BatchCall.{BatchCall}
-use Rattle.fal_node.specs.declared.letter.Letter.{Letter}
+use Rattle.fal_wire.specs.declared.letter.Letter.{Letter}
 use Rattle.fal_node.specs.State.{NodeState}
-use Rattle.fal_node.specs.Letters.{Work, begun, letter, reply_letter, pass_letter, commits_in}
+use Rattle.fal_wire.specs.Letters.{letter}
+use Rattle.fal_node.specs.Letters.{Work, begun, reply_letter, pass_letter, commits_in}
 
 -- the batch with this number is executed
 abbrev pub as_executed : ℕ → Batch → Batch

@@ -16,14 +16,15 @@ use Rattle.fal_batch.specs.Fate.{Setting}
 use Rattle.fal_batch.specs.Plan.{Planning, plan_of, is_idle}
 use Rattle.fal_batch.specs.Seen.{setting_of}
 use Rattle.fal_node.specs.declared.batch.BatchCall.{BatchCall}
-use Rattle.fal_node.specs.declared.letter.Letter.{Letter}
-use Rattle.fal_node.specs.State.{NodeState}
-use Rattle.fal_node.specs.Letters.{Work, letter, pass_letter}
+use Rattle.fal_wire.specs.declared.letter.Letter.{Letter}
+use Rattle.fal_node.specs.State.{NodeState, blocked_names}
+use Rattle.fal_wire.specs.Letters.{letter}
+use Rattle.fal_node.specs.Letters.{Work, pass_letter}
 use Rattle.fal_node.specs.Deliver.{without_calls}
 
 -- what the node has at hand for its plan
 abbrev pub setting_at : NodeState → Setting
-setting_at node = setting_of node.replica node.locks node.table node.number node.barred node.limit
+setting_at node = setting_of node.replica node.locks node.table node.number (blocked_names node.blocked) node.limit
 
 -- what the node does with its free calls
 unfoldable pub plan_at : NodeState → Planning

@@ -1,17 +1,15 @@
 -- What a step makes: the node after it, the messages that it sends and the notes for the transcript.
-use Rattle.std.specs.Prelude.{ℕ, suc, ◌+◌, List, [], ◌∷◌, ◌==◌, if◌then◌else◌}
+use Rattle.std.specs.Prelude.{ℕ, suc, ◌+◌, Bool, ◌||◌, List, [], ◌∷◌, ◌==◌, nat_lt, if◌then◌else◌}
 use Rattle.fal_base.specs.declared.call.CallRec.{CallRec}
 use Rattle.fal_base.specs.declared.event.Actor.{Actor}
 use Rattle.fal_base.specs.declared.event.Actor.TheVariants.{Client, Node, Coord}
 use Rattle.fal_base.specs.declared.event.Note.{Note}
 use Rattle.fal_base.specs.declared.event.Note.TheVariants as note
-use Rattle.fal_base.specs.declared.event.Output.{Output}
 use Rattle.fal_base.specs.declared.event.Point.{Point}
 use Rattle.fal_base.specs.declared.reply.Reply.{Reply}
-use Rattle.fal_wire.specs.declared.message.Message.{Message}
 use Rattle.fal_wire.specs.declared.message.Message.TheVariants as message
-use Rattle.fal_wire.specs.Messages.{spelling}
-use Rattle.fal_node.specs.declared.letter.Letter.{Letter}
+use Rattle.fal_wire.specs.Letters.{letter}
+use Rattle.fal_wire.specs.declared.letter.Letter.{Letter}
 use Rattle.fal_node.specs.State.{NodeState}
 
 pub record Work : Type 0 where
@@ -22,13 +20,6 @@ pub record Work : Type 0 where
 -- nothing was sent or noted yet
 abbrev pub begun : NodeState → Work
 begun node = record { node = node; sent = []; notes = [] }
-
--- a letter as it goes out: the record of its message
-unfoldable pub output_of : Letter → Output
-output_of letter = record { to = letter.to; point = letter.point; bytes = spelling letter.message }
-
-abbrev pub letter : Actor → Point → Message → Letter
-letter to point message = record { to = to; point = point; message = message }
 
 -- the answer to the client of a call
 abbrev pub reply_letter : CallRec → Point → Reply → Letter
@@ -44,6 +35,10 @@ pass_letter call point to = letter to point (message.Call (passed_on call))
 -- who asks for a directory: a node, or the coordinator by the number 255
 abbrev pub asker_of : ℕ → Actor
 asker_of asker = if asker == 255 then Coord else Node asker
+
+-- whether someone has this number: a node of so many, or the coordinator
+abbrev pub is_asker : ℕ → ℕ → Bool
+is_asker nodes asker = nat_lt asker nodes || (asker == 255)
 
 -- how many commits there are among the notes
 abbrev pub commits_in : List Note → ℕ

@@ -1,5 +1,5 @@
 -- What a step changes in a node, which `apply` makes so.
-use Rattle.std.specs.Prelude.{ℕ, ◌+◌, List, [], ◌∷◌, Option, None, Some, if◌then◌else◌}
+use Rattle.std.specs.Prelude.{ℕ, ◌+◌, Bool, true, false, List, [], ◌∷◌, count_by, Option, None, Some, if◌then◌else◌}
 use Rattle.fal_base.specs.declared.inode.Inode.{Inode}
 use Rattle.fal_base.specs.declared.key.Key.{Key}
 use Rattle.fal_base.specs.Tree.{Tree, same_key}
@@ -32,6 +32,16 @@ abbrev pub rows_changed : Tree → List RowChange → Tree
 rows_changed rows [] = rows
 rows_changed rows (c ∷ cs) = rows_changed (rows_after rows c.key c.change) cs
 
+-- whether the change asks for room: another one leaves as many rows, or fewer
+abbrev pub is_put : Change → Bool
+is_put change.Keep = false
+is_put (change.Put inode) = true
+is_put change.Remove = false
+
+-- for how many rows the changes ask for room
+abbrev pub puts_in : List RowChange → ℕ
+puts_in changes = count_by (λ c. is_put c.change) changes
+
 -- so many numbers more are drawn, and rows have changed
 unfoldable pub with_rows : NodeState → List RowChange → ℕ → NodeState
 with_rows node changes drawn = record node { rows = rows_changed node.rows changes; drawn = node.drawn + drawn }
@@ -41,7 +51,7 @@ abbrev pub patched : NodeState → Patch → NodeState
 patched node patch.Nothing = node
 patched node (patch.Admit call) = admitted node call
 patched node (patch.Keep message) = with_item node message
-patched node (patch.Install fetch key dentry) = installed node fetch key dentry
+patched node (patch.Learn fetch key dentry) = installed node fetch key dentry
 patched node (patch.Leave fetch tickets) = emptied node fetch tickets.items
 patched node (patch.Gather fetches tickets calls keys) = with_batch (with_waiting node fetches.items tickets.items) calls keys.items
 patched node (patch.Execute batch changes drawn) = with_rows (with_executed node batch) changes.items drawn

@@ -2,7 +2,7 @@
 use Rattle.std.specs.Prelude.{◌≡◌, ◌+◌, ◌<◌, ◌≤◌, ◌^◌, List, [], ◌∷◌, length, map, Option, None, Some, IsTrue}
 use Rattle.fal_base.specs.declared.key.Key.{Key}
 use Rattle.fal_wait.specs.Lists.{IsPartOf}
-use Rattle.fal_wait.specs.Waiting.{WaitList, free_tickets, after_open, is_taken}
+use Rattle.fal_wait.specs.Waiting.{WaitList, free_tickets, after_open, is_new}
 use Rattle.fal_locks.specs.Locks.{first_shut}
 use Rattle.fal_batch.specs.declared.parts.Wanted.{Wanted}
 use Rattle.fal_node.specs.declared.batch.BatchCall.{BatchCall}
@@ -12,9 +12,10 @@ use Rattle.fal_node.specs.declared.patch.Patch.TheVariants as patch
 use Rattle.fal_node.specs.declared.draft.Draft.{Draft}
 use Rattle.fal_node.specs.declared.patch.Prepared.{Prepared}
 use Rattle.fal_node.specs.State.{NodeState}
-use Rattle.fal_node.specs.Letters.{Work, output_of}
+use Rattle.fal_wire.specs.Letters.{output_of}
+use Rattle.fal_node.specs.Letters.{Work}
 use Rattle.fal_node.specs.Step.{node_step}
-use Rattle.fal_node.specs.Patch.{Room, Seen, patched}
+use Rattle.fal_node.specs.Patch.{Room, Seen, patched, puts_in}
 use Rattle.fal_node.specs.Sound.{is_row_op, are_row_calls}
 
 -- each fetch's waiters are free when it is opened
@@ -48,10 +49,10 @@ abbrev pub HasRoom : Room → Patch → Type 0
 HasRoom room patch.Nothing = Unit {0}
 HasRoom room (patch.Admit call) = 1 ≤ room.waiting
 HasRoom room (patch.Keep message) = 1 ≤ room.items
-HasRoom room (patch.Install fetch key dentry) = 1 ≤ room.replica
+HasRoom room (patch.Learn fetch key dentry) = 1 ≤ room.replica
 HasRoom room (patch.Leave fetch tickets) = Unit {0}
 HasRoom room (patch.Gather fetches tickets calls keys) = (length fetches.items ≤ room.waiting) × HasRoomForBatch room calls keys.items
-HasRoom room (patch.Execute batch changes drawn) = length changes.items ≤ room.rows
+HasRoom room (patch.Execute batch changes drawn) = puts_in changes.items ≤ room.rows
 HasRoom room (patch.Release batch) = Unit {0}
 HasRoom room (patch.Serve item) = Unit {0}
 
@@ -60,7 +61,7 @@ abbrev pub CanChange : NodeState → Patch → Type 0
 CanChange node patch.Nothing = Unit {0}
 CanChange node (patch.Admit call) = (node.waiting.tickets + 1 < 2 ^ 64) × IsTrue (is_row_op call.op)
 CanChange node (patch.Keep message) = node.items_numbered + 1 < 2 ^ 64
-CanChange node (patch.Install fetch key dentry) = Unit {0}
+CanChange node (patch.Learn fetch key dentry) = Unit {0}
 CanChange node (patch.Leave fetch tickets) = Unit {0}
 CanChange node (patch.Gather fetches tickets calls keys) =
     (node.waiting.opened + length fetches.items ≤ 2 ^ 64) × CanOpen node.waiting fetches.items × CanHaveBatch node calls keys.items
@@ -114,6 +115,7 @@ CanGather node other = ⊥
 
 -- a change that can be made but for room and counters. An admitted call is one that is taken
 abbrev pub CanDraft : NodeState → Patch → Type 0
-CanDraft node (patch.Admit call) = IsTrue (is_taken node.waiting call) × IsTrue (is_row_op call.op)
+CanDraft node (patch.Admit call) = IsTrue (is_new node.waiting call) × IsTrue (is_row_op call.op)
 CanDraft node (patch.Gather fetches tickets calls keys) = CanGather node (patch.Gather fetches tickets calls keys)
+CanDraft node (patch.Execute batch changes drawn) = node.drawn + drawn < 2 ^ 64
 CanDraft node other = Unit {0}

@@ -3,7 +3,7 @@ use Rattle.std.specs.Prelude.{ℕ, ◌+◌, List, [], ◌∷◌}
 use Rattle.fal_wait.specs.Waiting.{call_of}
 use Rattle.fal_batch.specs.declared.parts.Sending.{Sending}
 use Rattle.fal_batch.specs.declared.parts.Sending.TheVariants as sending
-use Rattle.fal_node.specs.declared.letter.Letter.{Letter}
+use Rattle.fal_wire.specs.declared.letter.Letter.{Letter}
 use Rattle.fal_node.specs.State.{NodeState}
 use Rattle.fal_node.specs.Gather.{away_letters, ask_letter}
 

@@ -10,17 +10,18 @@ use Rattle.fal_wire.specs.declared.message.Message.TheVariants as message
 use Rattle.fal_batch.specs.Fate.{bars}
 use Rattle.fal_duty.specs.Duties.{fetched_of}
 use Rattle.fal_node.specs.declared.item.Item.{Item}
-use Rattle.fal_node.specs.declared.letter.Letter.{Letter}
-use Rattle.fal_node.specs.State.{NodeState, without_item}
-use Rattle.fal_node.specs.Letters.{Work, letter, asker_of}
+use Rattle.fal_wire.specs.declared.letter.Letter.{Letter}
+use Rattle.fal_node.specs.State.{NodeState, blocked_names, without_item}
+use Rattle.fal_wire.specs.Letters.{letter}
+use Rattle.fal_node.specs.Letters.{Work, asker_of}
 
 -- whether the key lives at this node by its table
 abbrev pub owns : NodeState → Key → Bool
 owns node key = owner node.table key == node.number
 
--- a fetch is served where its name is not barred, and this node is not the owner or the key is not shut
+-- a fetch is served where its name is not blocked, and this node is not the owner or the key is not shut
 abbrev pub can_tell : NodeState → Key → Bool
-can_tell node key = not (bars node.barred key.name) && (not (owns node key) || not (is_shut node.locks key))
+can_tell node key = not (bars (blocked_names node.blocked) key.name) && (not (owns node key) || not (is_shut node.locks key))
 
 -- the owner tells the asker by its row; another node asks the owner
 abbrev pub fetch_letter : NodeState → ℕ → ℕ → Key → Letter

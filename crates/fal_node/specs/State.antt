@@ -1,5 +1,5 @@
 -- What a node is.
-use Rattle.std.specs.Prelude.{ℕ, ◌+◌, List, [], ◌∷◌, ◌++◌, Option, ◌==◌, if◌then◌else◌}
+use Rattle.std.specs.Prelude.{ℕ, ◌+◌, List, [], ◌∷◌, ◌++◌, Option, Some, None, ◌==◌, if◌then◌else◌}
 use Rattle.std.specs.List.{find}
 use Rattle.fal_base.specs.declared.barred.Barred.{Barred}
 use Rattle.fal_base.specs.declared.barred.Barred.TheVariants.{Nothing}
@@ -11,9 +11,10 @@ use Rattle.fal_wait.specs.Lists.{without_first}
 use Rattle.fal_wait.specs.Waiting.{WaitList, no_calls}
 use Rattle.fal_wire.specs.declared.message.Message.{Message}
 use Rattle.fal_node.specs.declared.batch.Batch.{Batch}
+use Rattle.fal_node.specs.declared.blocking.Blocking.{Blocking}
 use Rattle.fal_node.specs.declared.item.Item.{Item}
 
--- its number, and how many calls a batch takes at most; its table, rows and replica; its locks, and the names that an operation has barred
+-- its number, and how many calls a batch takes at most; its table, rows and replica; its locks, and the names that an operation has blocked
 -- here; the waiting calls, the items to be served and the batches, each in the order of their numbers; the last operation that it has taken;
 -- how many items and batches it has numbered, and how many inode numbers it has drawn
 pub record NodeState : Type 0 where
@@ -23,8 +24,7 @@ pub record NodeState : Type 0 where
   pub rows : Tree
   pub replica : Dentries
   pub locks : LockTable
-  pub barred : Barred
-  pub barred_by : ℕ
+  pub blocked : Option Blocking
   pub waiting : WaitList
   pub items : List Item
   pub batches : List Batch
@@ -32,6 +32,11 @@ pub record NodeState : Type 0 where
   pub items_numbered : ℕ
   pub batches_numbered : ℕ
   pub drawn : ℕ
+
+-- the names that are blocked
+abbrev pub blocked_names : Option Blocking → Barred
+blocked_names None = Nothing
+blocked_names (Some blocking) = blocking.names
 
 -- node 0 has the root's row
 abbrev pub opening_rows : ℕ → Tree
@@ -46,8 +51,7 @@ opening_node number nodes limit = record {
   rows = opening_rows number;
   replica = [];
   locks = no_locks;
-  barred = Nothing;
-  barred_by = 0;
+  blocked = None;
   waiting = no_calls;
   items = [];
   batches = [];

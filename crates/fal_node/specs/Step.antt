@@ -1,9 +1,11 @@
 -- The steps of a node.
-use Rattle.std.specs.Prelude.{ℕ, ◌+◌, ◌<◌, ◌≤◌, ◌^◌, Bool, true, false, Option, None, Some, ◌==◌}
-use Rattle.std.specs.List.{All}
+use Rattle.std.specs.Prelude.{ℕ, ◌+◌, ◌*◌, ◌<◌, ◌≤◌, ◌^◌, Bool, true, false, Option, None, Some, ◌==◌, nat_lt, IsTrue}
+use Rattle.std.specs.List.{All, list_any}
 use Rattle.std.specs.Option.{ForSome}
 use Rattle.fal_base.specs.declared.event.Actor.{Actor}
 use Rattle.fal_base.specs.declared.event.Actor.TheVariants.{Client, Node, Coord}
+use Rattle.fal_base.specs.declared.event.Note.{Note}
+use Rattle.fal_base.specs.declared.event.Note.TheVariants as note
 use Rattle.fal_wire.specs.Messages.{Fits}
 use Rattle.fal_node.specs.declared.batch.Batch.{Batch}
 use Rattle.fal_node.specs.declared.event.NodeEvent.{NodeEvent}
@@ -12,7 +14,7 @@ use Rattle.fal_node.specs.State.{NodeState, batch_of, item_of, released}
 use Rattle.fal_node.specs.Letters.{Work, begun, commits_in}
 use Rattle.fal_node.specs.Deliver.{delivered}
 use Rattle.fal_node.specs.Gather.{plan_at, gather}
-use Rattle.fal_node.specs.Exec.{number_after, execute}
+use Rattle.fal_node.specs.Exec.{execute}
 use Rattle.fal_node.specs.Serve.{serve}
 
 abbrev pub is_node : Actor → ℕ → Bool
@@ -37,14 +39,23 @@ node_step node (Exec number) = execute node number (batch_of node number)
 node_step node (Release number) = release node number (batch_of node number)
 node_step node (Serve number) = serve node (item_of node number)
 
--- each record is within the ranges of the format, and no counter or sum is past the end of its type
+-- whether it notes a commit that draws an inode number
+abbrev pub is_numbered : Note → Bool
+is_numbered (note.Commit lane seq ino) = nat_lt 0 ino
+is_numbered other = false
+
+-- the last inode number that a node has drawn
+abbrev pub last_number : NodeState → ℕ
+last_number node = 256 * node.drawn + node.number
+
+-- each record is within the ranges of the format, and no counter or sum is past the end of its type; where inode numbers are drawn, they fit
 pub record IsWithin (work : Work) : Type 0 where
   pub records : All (λ letter. Fits letter.message) work.sent
   pub tickets : work.node.waiting.tickets < 2 ^ 64
   pub fetches : work.node.waiting.opened ≤ 2 ^ 64
   pub items : work.node.items_numbered < 2 ^ 64
   pub batches : work.node.batches_numbered < 2 ^ 64
-  pub numbers : number_after work.node.number work.node.drawn < 2 ^ 64
+  pub numbers : IsTrue (list_any is_numbered work.notes) → last_number work.node < 2 ^ 64
   pub commits : commits_in work.notes + 1 < 2 ^ 32
 
 -- the event, where it is enabled, stays within the ranges

@@ -2,12 +2,12 @@
 
 ghost use Rattle.std.specs.Prelude.{◌≡◌, IfOk, OnErr, IsSome, is_some};
 ghost use Rattle.std.specs.Option.{ForSome};
-ghost use Rattle.fal_exec.specs.RowCall.{good_names, row_names};
+ghost use Rattle.fal_exec.specs.RowCall.{row_names};
 ghost use Rattle.fal_wire.specs.Messages.{reading};
 ghost use Rattle.fal_node.specs.declared.event.NodeEvent.TheVariants as NodeEvent;
-ghost use Rattle.fal_node.specs.Letters.{begun};
+ghost use Rattle.fal_node.specs.Letters.{begun, is_asker as is_asker_of};
 ghost use Rattle.fal_node.specs.State.{with_item};
-ghost use Rattle.fal_node.specs.Deliver.{take_call as take_call_of, take_message as take_message_of, take_read};
+ghost use Rattle.fal_node.specs.Deliver.{take_call as take_call_of, take_question as take_question_of, take_message as take_message_of, take_read};
 ghost use Rattle.fal_node.specs.Step.{is_node as is_node_of, node_step};
 ghost use Rattle.fal_node.specs.Ready.{Does, DoesOf, CanDraft};
 
@@ -15,36 +15,15 @@ use crate::draft::{Draft, quiet_draft};
 use crate::node::Node;
 use crate::patch::Patch;
 use crate::settle::take_found;
-use fal_base::{Actor, CallRec, Envelope, Op, OutOfMemory, PathArg};
+use fal_base::{Actor, CallRec, Envelope, Key, Op, OutOfMemory};
+use fal_place::Table;
 use fal_wire::{Message, WireFault, decode};
-
-fn is_good(path: &PathArg) -> bool
-    ensures { result ≡ is_some (good_names path.now) }
-{
-    match path {
-        PathArg::Good(_) => true,
-        PathArg::Bad { .. } => false,
-    }
-}
 
 // Whether one row decides the operation.
 fn is_row_op(op: &Op) -> bool
     ensures { result ≡ is_some (row_names op.now) }
 {
-    match op {
-        Op::Mkdir { path, .. } => is_good(path),
-        Op::Create { path, .. } => is_good(path),
-        Op::Stat { path } => is_good(path),
-        Op::Access { path, .. } => is_good(path),
-        Op::Chmod { path, .. } => is_good(path),
-        Op::Chown { path, .. } => is_good(path),
-        Op::Truncate { path, .. } => is_good(path),
-        Op::Unlink { path } => is_good(path),
-        Op::List { path } => is_good(path),
-        Op::Rmdir { .. } => false,
-        Op::Rename { .. } => false,
-        Op::Place { .. } => false,
-    }
+    !matches!(op, Op::Rmdir { .. }) && op.only_path().is_some()
 }
 
 // Nothing changes.
@@ -87,6 +66,27 @@ fn keep(node: &Node, message: Message) -> Draft
     quiet_draft(node.alloc, Patch::Keep(message))
 }
 
+// Whether someone has this number: a node that is there, or the coordinator.
+fn is_asker(table: &Table, asker: u8) -> bool
+    ensures { result ≡ is_asker_of table.now.nodes asker }
+{
+    asker < table.nodes() || asker == 255
+}
+
+// A question comes. One by an asker that is not there changes nothing.
+fn take_question(node: &Node, asker: u8, number: u64, key: Key) -> Draft
+    ensures does { Does node.now.state (begun (take_question_of node.now.state asker number key)) result }
+    ensures can { CanDraft node.now.state result.patch }
+{
+    let message = Message::FetchAsk { asker, number, key };
+    if is_asker(&node.table, asker) {
+        keep(node, message)
+    } else {
+        discard_message(message);
+        nothing(node)
+    }
+}
+
 // A message comes. One of a kind that is not for nodes changes nothing.
 fn take_message(node: &Node, point: u64, message: Message) -> Result<Draft, OutOfMemory>
     ensures does { IfOk result (λ draft. Does node.now.state (take_message_of node.now.state point message) draft) }
@@ -94,9 +94,7 @@ fn take_message(node: &Node, point: u64, message: Message) -> Result<Draft, OutO
 {
     match message {
         Message::Call(call) => Ok(take_call(node, call)),
-        Message::FetchAsk { asker, number, key } => {
-            Ok(keep(node, Message::FetchAsk { asker, number, key }))
-        }
+        Message::FetchAsk { asker, number, key } => Ok(take_question(node, asker, number, key)),
         Message::FetchGot { number, key, found } => take_found(node, number, point, key, found),
         other => {
             discard_message(other);

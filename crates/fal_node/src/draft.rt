@@ -1,8 +1,8 @@
 ghost use Rattle.std.specs.Prelude.{◌≡◌, [], ◌∷◌, IfOk};
 
-use crate::letter::Letter;
 use crate::patch::Patch;
 use fal_base::{Note, OutOfMemory};
+use fal_wire::Letter;
 use std::alloc::Global;
 
 /// What a step changes, sends and notes, before its messages are spelled.

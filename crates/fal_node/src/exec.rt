@@ -5,7 +5,7 @@ ghost use Rattle.fal_node.specs.Exec.{number_after, call_outcome, answer_letter 
 ghost use Rattle.fal_node.specs.Patch.{rows_changed, found_after};
 ghost use Rattle.fal_node.specs.Runs.{run_work};
 ghost use Rattle.fal_node.specs.Letters.{commits_in};
-ghost use Rattle.fal_node.specs.Exec.{change_of as change_of_outcome, draws as draws_of, noted_number as noted_number_of, exec_one, exec_all, is_making as is_making_op};
+ghost use Rattle.fal_node.specs.Exec.{change_of as change_of_outcome, drawn_by, draws as draws_of, noted_number as noted_number_of, exec_one, exec_all, is_making as is_making_op};
 ghost use Rattle.fal_node.specs.Sound.{is_row_op, are_row_calls};
 ghost use Rattle.fal_node.specs.Letters.{begun};
 ghost use Rattle.fal_node.specs.Exec.{with_executed};
@@ -17,7 +17,6 @@ ghost use Rattle.fal_node.specs.Step.{IsWithin};
 
 use crate::batch::BatchCall;
 use crate::draft::Draft;
-use crate::letter::Letter;
 use crate::node::Node;
 use crate::patch::{Patch, RowChange};
 use crate::serve::find_batch;
@@ -26,7 +25,7 @@ use fal_base::{
 };
 use fal_exec::{Change, ExecOut, exec};
 use fal_inode::Rows;
-use fal_wire::Message;
+use fal_wire::{Letter, Message};
 use std::alloc::Global;
 
 // What is found under the key after the change.
@@ -54,10 +53,26 @@ fn row_now(rows: &Rows, changes: &[RowChange], key: &Key) -> Option<Inode>
     found
 }
 
-// What comes of the call, by the rows after these changes.
+// How many inode numbers of a node fit.
+const MOST_NUMBERS: u64 = 72_057_594_037_927_935;
+
+// The next inode number, where it fits, after so many more are drawn.
+fn next_number(node: &Node, drawn: u64) -> u64
+    ensures { number_after node.now.state.number (node.now.state.drawn + drawn) < 2 ^ 64 → result ≡ number_after node.now.state.number (node.now.state.drawn + drawn) }
+{
+    let before = node.drawn.saturating_add(drawn);
+    if before < MOST_NUMBERS {
+        (256 * (before + 1)).saturating_add(u64::from(node.number))
+    } else {
+        0
+    }
+}
+
+// What comes of the call, by the rows after these changes. Only a new row asks for the next inode number.
 fn outcome(node: &Node, changes: &[RowChange], drawn: u64, planned: &BatchCall) -> ExecOut
     requires row_call { IsTrue (is_row_op planned.now.call.op) }
-    requires number { number_after node.now.state.number (node.now.state.drawn + drawn) < 2 ^ 64 }
+    requires number { 0 < drawn_by planned.now.call.op (change_of_outcome (call_outcome node.now.state.number (rows_changed node.now.state.rows changes.now) (node.now.state.drawn + drawn) planned.now))
+        → number_after node.now.state.number (node.now.state.drawn + drawn) < 2 ^ 64 }
     ensures { result ≡ call_outcome node.now.state.number (rows_changed node.now.state.rows changes.now) (node.now.state.drawn + drawn) planned.now }
 {
     if planned.denied {
@@ -66,7 +81,7 @@ fn outcome(node: &Node, changes: &[RowChange], drawn: u64, planned: &BatchCall) 
             change: Change::Keep,
         };
     }
-    let fresh = 256 * (node.drawn + drawn + 1) + u64::from(node.number);
+    let fresh = next_number(node, drawn);
     let row = row_now(&node.rows, changes, &planned.last);
     exec(
         row.as_ref(),
@@ -153,7 +168,7 @@ fn is_making(op: &Op) -> bool
 // A row is put, by a commit.
 fn put_row(run: &mut Run, planned: &BatchCall, fresh: u64, inode: Inode) -> Result<(), OutOfMemory>
     requires commits { run.old.commits + 1 < 2 ^ 32 }
-    requires drawn { run.old.drawn + 1 < 2 ^ 64 }
+    requires drawn { run.old.drawn + draws_of planned.now.call.op < 2 ^ 64 }
     ensures batch { OnOk result (run.new.batch ≡ run.old.batch) }
     ensures changes { OnOk result (run.new.changes.items ≡ run.old.changes.items ++ record { key = planned.now.last; change = Change.Put inode } ∷ []) }
     ensures letters { OnOk result (run.new.letters.items ≡ run.old.letters.items) }
@@ -202,18 +217,20 @@ fn remove_row(run: &mut Run, planned: &BatchCall) -> Result<(), OutOfMemory>
 // Runs one call of the batch.
 fn run_call(node: &Node, run: &mut Run, planned: &BatchCall) -> Result<(), OutOfMemory>
     requires row_call { IsTrue (is_row_op planned.now.call.op) }
-    requires number { number_after node.now.state.number (node.now.state.drawn + run.old.drawn) < 2 ^ 64 }
+    requires number { 0 < drawn_by planned.now.call.op (change_of_outcome (call_outcome node.now.state.number (rows_changed node.now.state.rows run.old.changes.items) (node.now.state.drawn + run.old.drawn) planned.now))
+        → number_after node.now.state.number (node.now.state.drawn + run.old.drawn) < 2 ^ 64 }
     requires hop { call_outcome node.now.state.number (rows_changed node.now.state.rows run.old.changes.items) (node.now.state.drawn + run.old.drawn) planned.now ≡ ExecOut.PassOn → planned.now.call.id.hop + 1 < 2 ^ 32 }
     requires commits { run.old.commits ≡ commits_in run.old.notes.items }
     requires few { run.old.commits + 1 < 2 ^ 32 }
+    requires fits { node.now.state.drawn + run.old.drawn < 2 ^ 64 }
     ensures work { OnOk result (run_work node.now.state run.new ≡ exec_one (run_work node.now.state run.old) planned.now) }
     ensures commits { OnOk result (run.new.commits ≡ commits_in run.new.notes.items) }
     ensures batch { OnOk result (run.new.batch ≡ run.old.batch) }
     ensures few { OnOk result (run.new.commits ≤ run.old.commits + 1) }
-    ensures numbers { OnOk result (run.new.drawn ≤ run.old.drawn + 1) }
+    ensures fits { OnOk result (node.now.state.drawn + run.new.drawn < 2 ^ 64) }
 {
     let outcome = outcome(node, &run.changes, run.drawn, planned);
-    let fresh = 256 * (node.drawn + run.drawn + 1) + u64::from(node.number);
+    let fresh = next_number(node, run.drawn);
     let letter = answer_letter(&planned.call, run.commits, &outcome)?;
     run.letters.push(letter)?;
     match change_of(&outcome) {
@@ -229,15 +246,17 @@ fn run_call(node: &Node, run: &mut Run, planned: &BatchCall) -> Result<(), OutOf
     }
 }
 
-// A batch of which no call was run yet.
-fn new_run(alloc: Global, batch: u64) -> Run
+// A batch of which no call was run yet, at a node that has drawn so many numbers.
+fn new_run(alloc: Global, batch: u64, drawn_before: u64) -> Run
     ensures batch { result.batch ≡ batch }
     ensures changes { result.changes.items ≡ [] }
     ensures letters { result.letters.items ≡ [] }
     ensures notes { result.notes.items ≡ [] }
     ensures commits { result.commits ≡ 0 }
     ensures drawn { result.drawn ≡ 0 }
+    ensures fits { drawn_before + result.drawn < 2 ^ 64 }
 {
+    let _ = drawn_before;
     Run {
         batch,
         changes: Vec::new(alloc),
@@ -254,8 +273,9 @@ pub(crate) fn run_calls(node: &Node, batch: u64, calls: &[BatchCall]) -> Result<
     requires within { IsWithin (exec_all (begun (with_executed node.now.state batch)) calls.now) }
     ensures work { IfOk result (λ run. run_work node.now.state run ≡ exec_all (begun (with_executed node.now.state batch)) calls.now) }
     ensures batch { IfOk result (λ run. run.batch ≡ batch) }
+    ensures fits { IfOk result (λ run. node.now.state.drawn + run.drawn < 2 ^ 64) }
 {
-    let mut run = new_run(node.alloc, batch);
+    let mut run = new_run(node.alloc, batch, node.drawn);
     let mut rest = calls;
     while let Some((planned, others)) = rest.split_first() {
         run_call(node, &mut run, planned)?;

@@ -1,7 +1,7 @@
 ghost use Rattle.std.specs.Prelude.{◌≡◌, ◌<◌, ◌^◌, ◌++◌, not, map, IfOk, OnOk, OnErr, IsSome, None};
 ghost use Rattle.std.specs.List.{All};
 ghost use Rattle.std.specs.Option.{ForSome};
-ghost use Rattle.fal_wait.specs.Waiting.{call_of, count_to};
+ghost use Rattle.fal_wait.specs.Waiting.{IsNumbered, call_of, count_to};
 ghost use Rattle.fal_locks.specs.Locks.{first_shut};
 ghost use Rattle.fal_wire.specs.Messages.{Fits};
 ghost use Rattle.fal_batch.specs.Plan.{is_idle};
@@ -13,15 +13,15 @@ ghost use Rattle.fal_node.specs.Step.{node_step, IsWithin, StaysWithin};
 ghost use Rattle.fal_node.specs.Ready.{CanGather, Does, DoesOf};
 
 use crate::batch::BatchCall;
+use crate::blocking::blocked_names;
 use crate::draft::Draft;
 use crate::exec::passed_on;
-use crate::letter::Letter;
 use crate::node::Node;
 use crate::patch::Patch;
-use fal_base::{Actor, CallRec, Duplicate, Items, Key, OutOfMemory, Point};
+use fal_base::{Actor, Barred, CallRec, Duplicate, Items, Key, OutOfMemory, Point};
 use fal_batch::{Away, Plan, Planned, Sending, is_plan_idle, plan};
 use fal_wait::Waiting;
-use fal_wire::Message;
+use fal_wire::{Letter, Message};
 use std::alloc::Global;
 
 // What the node does with its free calls.
@@ -29,7 +29,9 @@ use std::alloc::Global;
 fn plan_now(node: &Node) -> Result<Plan, OutOfMemory>
     ensures plan { IfOk result (λ plan. plan_seen plan ≡ plan_at node.now.state) }
     ensures open { IfOk result (λ plan. first_shut node.now.state.locks plan.keys.items ≡ None) }
+    ensures numbered { IsNumbered node.now.state.waiting }
 {
+    let nothing = Barred::Nothing;
     plan(
         node.alloc,
         &node.waiting,
@@ -37,7 +39,7 @@ fn plan_now(node: &Node) -> Result<Plan, OutOfMemory>
         &node.locks,
         &node.table,
         node.number,
-        &node.barred,
+        blocked_names(&node.blocked, &nothing),
         node.limit,
     )
 }
@@ -47,6 +49,7 @@ fn plan_now(node: &Node) -> Result<Plan, OutOfMemory>
 pub(crate) fn can_gather(node: &Node) -> bool
     ensures { result ≡ not (is_idle (plan_at node.now.state)) }
 {
+    let nothing = Barred::Nothing;
     !is_plan_idle(
         node.alloc,
         &node.waiting,
@@ -54,7 +57,7 @@ pub(crate) fn can_gather(node: &Node) -> bool
         &node.locks,
         &node.table,
         node.number,
-        &node.barred,
+        blocked_names(&node.blocked, &nothing),
         node.limit,
     )
 }
@@ -251,6 +254,7 @@ fn batch_calls(
 fn draft_of_plan(node: &Node, plan: Plan) -> Result<Draft, OutOfMemory>
     requires plan { plan_seen plan ≡ plan_at node.now.state }
     requires open { first_shut node.now.state.locks plan.keys.items ≡ None }
+    requires numbered { IsNumbered node.now.state.waiting }
     requires within { IsWithin (gathered node.now.state (plan_at node.now.state)) }
     ensures work { IfOk result (λ draft. Does node.now.state (gathered node.now.state (plan_at node.now.state)) draft) }
     ensures patch { IfOk result (λ draft. CanGather node.now.state draft.patch) }

@@ -5,6 +5,7 @@
 
 mod apply;
 mod batch;
+mod blocking;
 mod deliver;
 mod draft;
 mod due;
@@ -13,21 +14,19 @@ mod exec;
 mod gather;
 mod item;
 mod law;
-mod letter;
 mod node;
 mod patch;
 mod ready;
 mod room;
 mod serve;
 mod settle;
-mod spell;
 
 pub use batch::{Batch, BatchCall};
+pub use blocking::Blocking;
 pub use draft::Draft;
-pub use event::NodeEvent;
+pub use event::{NodeEvent, OwnEvent};
 pub use exec::Run;
 pub use item::Item;
 pub use law::records_are_read;
-pub use letter::Letter;
 pub use node::Node;
 pub use patch::{Patch, Prepared, RowChange};

@@ -3,8 +3,9 @@ ghost use Rattle.fal_node.specs.State.{opening_node, opening_rows};
 ghost use Rattle.fal_node.specs.Due.{is_quiet};
 
 use crate::batch::Batch;
+use crate::blocking::Blocking;
 use crate::item::Item;
-use fal_base::{Barred, Inode, Key, Kind, OutOfMemory};
+use fal_base::{Inode, Key, Kind, OutOfMemory};
 use fal_dentry::Replica;
 use fal_inode::Rows;
 use fal_locks::Locks;
@@ -23,8 +24,7 @@ pub struct Node {
     pub(crate) rows: Rows,
     pub(crate) replica: Replica,
     pub(crate) locks: Locks,
-    pub(crate) barred: Barred,
-    pub(crate) barred_by: u32,
+    pub(crate) blocked: Option<Blocking>,
     pub(crate) waiting: Waiting,
     pub(crate) items: Vec<Item>,
     pub(crate) batches: Vec<Batch>,
@@ -49,8 +49,7 @@ impl Model for Node {
         rows = a.rows.rows;
         replica = a.replica.entries;
         locks = a.locks.table;
-        barred = a.barred;
-        barred_by = a.barred_by;
+        blocked = a.blocked;
         waiting = a.waiting.list;
         items = a.items.items;
         batches = a.batches.items;
@@ -69,7 +68,7 @@ impl Model for Node {
       };
     } };
 
-    ghost invariant = { λ a. IsSound a.waiting.list a.batches.items a.locks.table a.batches_numbered };
+    ghost invariant = { λ a. IsSound a.waiting.list.calls a.items.items a.items_numbered a.batches.items a.locks.table a.batches_numbered };
 }
 
 // The rows that a node has at first.
@@ -112,8 +111,7 @@ impl Node {
             rows: first_rows(alloc, number)?,
             replica: Replica::new(alloc),
             locks: Locks::new(alloc),
-            barred: Barred::Nothing,
-            barred_by: 0,
+            blocked: None,
             waiting: Waiting::new(alloc),
             items: Vec::new(alloc),
             batches: Vec::new(alloc),

@@ -22,7 +22,7 @@ pub enum Patch {
     Admit(CallRec),
     Keep(Message),
     /// The fetch is settled, and the directory is known.
-    Install {
+    Learn {
         fetch: u64,
         key: Key,
         dentry: Dentry,

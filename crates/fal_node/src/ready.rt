@@ -5,7 +5,7 @@ ghost use Rattle.std.specs.List.{All};
 ghost use Rattle.std.specs.Option.{ForSome};
 ghost use Rattle.fal_base.specs.declared.refuse.Refuse.TheVariants as Refuse;
 ghost use Rattle.fal_wire.specs.Messages.{Fits};
-ghost use Rattle.fal_node.specs.Letters.{output_of};
+ghost use Rattle.fal_wire.specs.Letters.{output_of};
 ghost use Rattle.fal_node.specs.Step.{node_step, StaysWithin};
 ghost use Rattle.fal_node.specs.Ready.{DoesOf, CanDraft, HasRoom, IsStepFor};
 
@@ -14,12 +14,11 @@ use crate::draft::Draft;
 use crate::event::NodeEvent;
 use crate::exec::execute;
 use crate::gather::draft_gather;
-use crate::letter::Letter;
 use crate::node::Node;
 use crate::patch::Prepared;
 use crate::serve::{release, serve};
-use crate::spell::spelled;
 use fal_base::{Items, OutOfMemory, OutputList, Outputs, Refuse};
+use fal_wire::{Letter, spelled};
 use std::alloc::Global;
 
 // Lets the draft go.

@@ -1,11 +1,27 @@
 //! Room for what a step changes.
 
 ghost use Rattle.std.specs.Prelude.{◌≡◌, ◌≤◌, OnOk};
+ghost use Rattle.fal_node.specs.Patch.{is_put as is_put_change, puts_in as puts_in_changes};
 ghost use Rattle.fal_node.specs.Ready.{HasRoom};
 
 use crate::node::Node;
-use crate::patch::Patch;
+use crate::patch::{Patch, RowChange};
 use fal_base::OutOfMemory;
+use fal_exec::Change;
+
+// Whether the change asks for room.
+fn is_put(change: &RowChange) -> bool
+    ensures { result ≡ is_put_change change.now.change }
+{
+    matches!(change.change, Change::Put(_))
+}
+
+// For how many rows the changes ask for room.
+fn puts_in(changes: &[RowChange]) -> usize
+    ensures { result ≡ puts_in_changes changes.now }
+{
+    changes.iter().filter(|change| is_put(change)).count()
+}
 
 impl Node {
     fn make_room_for_call(&mut self) -> Result<(), OutOfMemory>
@@ -30,11 +46,11 @@ impl Node {
         self.replica.reserve(1)
     }
 
-    fn make_room_for_rows(&mut self, rows: usize) -> Result<(), OutOfMemory>
+    fn make_room_for_rows(&mut self, changes: &[RowChange]) -> Result<(), OutOfMemory>
         ensures state { self.new.state ≡ self.old.state }
-        ensures room { OnOk result (rows ≤ self.new.room.rows) }
+        ensures room { OnOk result (puts_in_changes changes.now ≤ self.new.room.rows) }
     {
-        self.rows.reserve(rows)
+        self.rows.reserve(puts_in(changes))
     }
 
     // Room for so many fetches, and for a batch that holds so many keys.
@@ -60,13 +76,13 @@ impl Node {
             Patch::Nothing => Ok(()),
             Patch::Admit(_) => self.make_room_for_call(),
             Patch::Keep(_) => self.make_room_for_item(),
-            Patch::Install { .. } => self.make_room_for_dentry(),
+            Patch::Learn { .. } => self.make_room_for_dentry(),
             Patch::Leave { .. } => Ok(()),
             Patch::Gather { fetches, keys, .. } => self.make_room_to_gather(
                 fetches.len(),
                 keys.len(),
             ),
-            Patch::Execute { changes, .. } => self.make_room_for_rows(changes.len()),
+            Patch::Execute { changes, .. } => self.make_room_for_rows(changes),
             Patch::Release(_) => Ok(()),
             Patch::Serve(_) => Ok(()),
         }

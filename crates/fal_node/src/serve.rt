@@ -10,24 +10,24 @@ ghost use Rattle.fal_node.specs.Step.{release as release_of};
 ghost use Rattle.fal_node.specs.Ready.{DoesOf, CanDraft};
 
 use crate::batch::Batch;
+use crate::blocking::blocked_names;
 use crate::draft::{Draft, draft_of_one, quiet_draft};
 use crate::item::Item;
-use crate::letter::Letter;
 use crate::node::Node;
 use crate::patch::Patch;
 use fal_base::{Actor, Barred, Duplicate, Key, Name, OutOfMemory, Point};
 use fal_duty::fetched;
 use fal_locks::Locks;
-use fal_wire::Message;
+use fal_wire::{Letter, Message};
 
-// Whether the name is barred.
-fn bars(barred: &Barred, name: &Name) -> bool
-    ensures { result ≡ bars_name barred.now name.now }
+// Whether the name is one of these.
+fn bars(names: &Barred, name: &Name) -> bool
+    ensures { result ≡ bars_name names.now name.now }
 {
-    match barred {
+    match names {
         Barred::Nothing => false,
         Barred::One(other) => *other == *name,
-        Barred::All => true,
+        Barred::All => !name.bytes().is_empty(),
     }
 }
 
@@ -42,7 +42,8 @@ fn is_shut(locks: &Locks, key: &Key) -> bool
 pub(crate) fn can_tell(node: &Node, key: &Key) -> bool
     ensures { result ≡ can_tell_of node.now.state key.now }
 {
-    !bars(&node.barred, &key.name)
+    let nothing = Barred::Nothing;
+    !bars(blocked_names(&node.blocked, &nothing), &key.name)
         && (node.table.owner(key) != node.number || !is_shut(&node.locks, key))
 }
 

@@ -7,12 +7,11 @@ ghost use Rattle.fal_node.specs.Deliver.{refusal, refusals as refusals_of, refus
 ghost use Rattle.fal_node.specs.Ready.{Does, CanDraft};
 
 use crate::draft::{Draft, quiet_draft};
-use crate::letter::Letter;
 use crate::node::Node;
 use crate::patch::Patch;
 use fal_base::{Actor, CallRec, Errno, Key, OutOfMemory, Point, Reply};
 use fal_wait::{PendingFetch, Waiting};
-use fal_wire::{Found, Message};
+use fal_wire::{Found, Letter, Message};
 use std::alloc::Global;
 
 // The answer to a call that waited, at the point that came with the record.
@@ -99,7 +98,7 @@ fn settle(
     match found {
         Found::Dir(dentry) => Ok(quiet_draft(
             node.alloc,
-            Patch::Install {
+            Patch::Learn {
                 fetch: fetch.number,
                 key,
                 dentry,

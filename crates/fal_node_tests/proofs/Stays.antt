@@ -5,17 +5,17 @@ use Rattle.fal_base.specs.declared.call.CallRec.{CallRec}
 use Rattle.fal_base.specs.declared.event.Envelope.{Envelope}
 use Rattle.fal_exec.specs.RowCall.{row_names}
 use Rattle.fal_wait.specs.declared.pending_fetch.PendingFetch.{PendingFetch}
-use Rattle.fal_wait.specs.Waiting.{WaitList, is_taken, with_call, fetch_of}
+use Rattle.fal_wait.specs.Waiting.{WaitList, is_new, with_call, fetch_of}
 use Rattle.fal_wire.specs.declared.fault.WireFault.{WireFault}
 use Rattle.fal_wire.specs.declared.message.Message.{Message}
 use Rattle.fal_wire.specs.declared.message.Message.TheVariants as message
 use Rattle.fal_wire.specs.Messages.{Fits, reading}
 use Rattle.fal_node.specs.declared.event.NodeEvent.{NodeEvent}
 use Rattle.fal_node.specs.declared.event.NodeEvent.TheVariants.{Deliver, Gather, Exec, Release, Serve}
-use Rattle.fal_node.specs.declared.letter.Letter.{Letter}
+use Rattle.fal_wire.specs.declared.letter.Letter.{Letter}
 use Rattle.fal_node.specs.declared.patch.Prepared.{Prepared}
 use Rattle.fal_node.specs.State.{NodeState, opening_node, with_item}
-use Rattle.fal_node.specs.Letters.{Work, begun, commits_in}
+use Rattle.fal_node.specs.Letters.{Work, begun, is_asker, commits_in}
 use Rattle.fal_node.specs.Deliver.{admitted, take_call, settle_pending, take_message, take_read, delivered}
 use Rattle.fal_node.specs.Patch.{Seen}
 use Rattle.fal_node.specs.Ready.{after, IsStepOf, IsStepFor}
@@ -46,7 +46,7 @@ unfolding admitted with_call
 young_admitted n node call young =
     let tickets = young.tickets in
     let items = young.items in
-    elim (is_taken node.waiting call) as (λ b. IsYoung (n + 1) (record node { waiting = cond b (with_call node.waiting call) node.waiting })) [
+    elim (is_new node.waiting call) as (λ b. IsYoung (n + 1) (record node { waiting = cond b (with_call node.waiting call) node.waiting })) [
       | true ↦ record { number = young.number; fetches = young.fetches; opened = young.opened; batches = young.batches; drawn = young.drawn; tickets = omega arith; items = omega arith }
       | false ↦ record { number = young.number; fetches = young.fetches; opened = young.opened; batches = young.batches; drawn = young.drawn; tickets = omega arith; items = omega arith }
     ]
@@ -74,7 +74,11 @@ none_pending list number none = ap (λ fs. find (λ (f : PendingFetch). f.number
 
 quiet_message : (n : ℕ) (node : NodeState) (point : ℕ) (m : Message) → IsYoung n node → IsQuiet (n + 1) (take_message node point m)
 quiet_message n node point (message.Call call) young = quiet_call n node call young
-quiet_message n node point (message.FetchAsk asker number key) young = quiet_item n node (message.FetchAsk asker number key) young
+quiet_message n node point (message.FetchAsk asker number key) young =
+    elim (is_asker node.table.nodes asker) as (λ b. IsQuiet (n + 1) (begun (cond b (with_item node (message.FetchAsk asker number key)) node))) [
+      | true ↦ quiet_item n node (message.FetchAsk asker number key) young
+      | false ↦ same_quiet n node young
+    ]
 quiet_message n node point (message.FetchGot number key what) young =
     subst (λ (fetch : Option PendingFetch). IsQuiet (n + 1) (settle_pending node point key what fetch)) (sym (none_pending node.waiting number young.fetches)) (same_quiet n node young)
 quiet_message n node point (message.Reply id reply) young = same_quiet n node young
@@ -116,7 +120,7 @@ quiet_within n work small quiet =
       fetches = omega arith;
       items = omega arith;
       batches = omega arith;
-      numbers = omega arith;
+      numbers = λ _. omega arith;
       commits = subst (λ notes. commits_in notes + 1 < 2 ^ 32) (sym quiet.notes) (omega arith);
     }
 

@@ -7,7 +7,91 @@ use fal_base::{Actor, Bytes, Envelope, OutOfMemory, Refuse};
 use fal_node::{Node, NodeEvent};
 use fal_wire::decode;
 use std::alloc::{AllocError, Global};
-use std::test::*;
+use std::test::Fail;
+
+// What an envelope does to a node.
+#[derive(Clone, Copy, Debug, PartialEq, Eq)]
+enum Effect {
+    // it is no event of this node
+    Refused,
+    // the node sends and notes nothing, and is as it was
+    Nothing,
+    // anything else
+    Change,
+}
+
+// A call of stat on the root path by client 1.
+const STAT: &[u8] =
+    b"\x01\x01\0\0\0\x1c\x01\0\0\0\x01\0\0\0\x01\0\0\0\0\0\0\0\0\0\0\0\0\0\0\0\0\x03\0\0";
+
+// Envelopes by receiver and bytes, whether the bytes are a record, and what they do to node 1 of three as they come once and once more.
+const ROWS: [(Actor, &[u8], bool, [Effect; 2]); 13] = [
+    // what was sent to another actor
+    (Actor::Client(1), STAT, true, [Effect::Refused; 2]),
+    (Actor::Node(0), STAT, true, [Effect::Refused; 2]),
+    (Actor::Coord, STAT, true, [Effect::Refused; 2]),
+    // a call is taken once
+    (
+        Actor::Node(1),
+        STAT,
+        true,
+        [Effect::Change, Effect::Nothing],
+    ),
+    // no record
+    (Actor::Node(1), b"", false, [Effect::Nothing; 2]),
+    (
+        Actor::Node(1),
+        b"\x13\x01\0\0\0\0",
+        false,
+        [Effect::Nothing; 2],
+    ),
+    // the answer to fetch 7, which is not pending: nothing stands under the name `a` in directory 1
+    (
+        Actor::Node(1),
+        b"\x08\x01\0\0\0\x13\0\0\0\0\0\0\0\x07\0\0\0\0\0\0\0\x01\x01a\0",
+        true,
+        [Effect::Nothing; 2],
+    ),
+    // a record for the coordinator: node 0 has done its part of operation 1
+    (
+        Actor::Node(1),
+        b"\x0e\x01\0\0\0\x05\0\0\0\x01\0",
+        true,
+        [Effect::Nothing; 2],
+    ),
+    // fetch 7 of node 0, of node 2 and of the coordinator, which ask for what stands there; each time it comes is an item
+    (
+        Actor::Node(1),
+        b"\x07\x01\0\0\0\x13\0\0\0\0\0\0\0\0\x07\0\0\0\0\0\0\0\x01\x01a",
+        true,
+        [Effect::Change; 2],
+    ),
+    (
+        Actor::Node(1),
+        b"\x07\x01\0\0\0\x13\x02\0\0\0\0\0\0\0\x07\0\0\0\0\0\0\0\x01\x01a",
+        true,
+        [Effect::Change; 2],
+    ),
+    (
+        Actor::Node(1),
+        b"\x07\x01\0\0\0\x13\xff\0\0\0\0\0\0\0\x07\0\0\0\0\0\0\0\x01\x01a",
+        true,
+        [Effect::Change; 2],
+    ),
+    // and of nodes that the cluster has not got
+    (
+        Actor::Node(1),
+        b"\x07\x01\0\0\0\x13\x03\0\0\0\0\0\0\0\x07\0\0\0\0\0\0\0\x01\x01a",
+        true,
+        [Effect::Nothing; 2],
+    ),
+    (
+        Actor::Node(1),
+        b"\x07\x01\0\0\0\x13\x0f\0\0\0\0\0\0\0\x07\0\0\0\0\0\0\0\x01\x01a",
+        true,
+        [Effect::Nothing; 2],
+    ),
+];
 
 // The second node of three.
 fn new_node(alloc: Global) -> Result<Node, OutOfMemory>
@@ -47,69 +131,37 @@ fn printed(alloc: Global, node: &Node) -> Result<String, AllocError> {
     format!(in alloc; "{node:?}")
 }
 
-// Whether the node sends and notes nothing and is as it was, whatever the bytes.
-fn changes_nothing(alloc: Global, node: &mut Node, bytes: &[u8]) -> Result<bool, Fail>
+// What an envelope with these bytes does.
+fn effect_of(alloc: Global, node: &mut Node, to: Actor, bytes: &[u8]) -> Result<Effect, Fail>
     requires { IsYoung 8 node.old.state }
     ensures { (n : ℕ) → IsYoung n node.old.state → IsYoung (n + 1) node.new.state }
 {
     let before = printed(alloc, node)?;
-    let made = take(node, &delivery(alloc, Actor::Node(1), bytes)?)?;
+    let made = match take(node, &delivery(alloc, to, bytes)?) {
+        Ok(made) => made,
+        Err(Refuse::NotEnabled) => return Ok(Effect::Refused),
+        Err(Refuse::OutOfMemory) => return Err(Fail::new("out of memory")),
+    };
     let after = printed(alloc, node)?;
-    Ok(made == (0, 0) && before == after)
-}
-
-// A call of stat on the root path by client 1.
-const STAT: &[u8] =
-    b"\x01\x01\0\0\0\x1c\x01\0\0\0\x01\0\0\0\x01\0\0\0\0\0\0\0\0\0\0\0\0\0\0\0\0\x03\0\0";
-
-#[test]
-fn what_was_sent_to_another_actor_is_refused(rt: HostRuntime) -> Result<(), Fail> {
-    let alloc = rt.alloc();
-    for to in [Actor::Client(1), Actor::Node(0), Actor::Coord] {
-        let mut node = new_node(alloc)?;
-        let event = delivery(alloc, to, STAT)?;
-        assert!(rt; matches!(take(&mut node, &event), Err(Refuse::NotEnabled)));
-        assert!(rt; node.quiet());
+    if made == (0, 0) && before == after {
+        return Ok(Effect::Nothing);
     }
-    Ok(())
+    Ok(Effect::Change)
 }
 
-#[test]
-fn bytes_that_are_no_record_change_nothing(rt: HostRuntime) -> Result<(), Fail> {
-    let alloc = rt.alloc();
-    for bytes in [b"".as_slice(), b"\x13\x01\0\0\0\0".as_slice()] {
-        let mut node = new_node(alloc)?;
-        assert!(rt; decode(alloc, bytes).is_err());
-        assert!(rt; changes_nothing(alloc, &mut node, bytes)?);
-    }
-    Ok(())
-}
-
-// The answer to fetch 7 that nothing stands under the name `a` in directory 1.
-const NOTHING: &[u8] = b"\x08\x01\0\0\0\x13\0\0\0\0\0\0\0\x07\0\0\0\0\0\0\0\x01\x01a\0";
-
-// A record for the coordinator: node 0 has done its part of operation 1.
-const DONE: &[u8] = b"\x0e\x01\0\0\0\x05\0\0\0\x01\0";
-
-#[test]
-fn records_that_no_row_takes_change_nothing(rt: HostRuntime) -> Result<(), Fail> {
-    let alloc = rt.alloc();
-    for bytes in [NOTHING, DONE] {
-        let mut node = new_node(alloc)?;
-        assert!(rt; decode(alloc, bytes).is_ok());
-        assert!(rt; changes_nothing(alloc, &mut node, bytes)?);
-    }
-    Ok(())
-}
-
-#[test]
-fn a_call_is_taken_once(rt: HostRuntime) -> Result<(), Fail> {
-    let alloc = rt.alloc();
+// What it does to a new node, and what it does as it comes again.
+fn effects(alloc: Global, to: Actor, bytes: &[u8]) -> Result<[Effect; 2], Fail> {
     let mut node = new_node(alloc)?;
-    assert!(rt; !changes_nothing(alloc, &mut node, STAT)?);
-    assert!(rt; !node.quiet());
-    assert!(rt; matches!(node.due(0), Some(NodeEvent::Gather)));
-    assert!(rt; node.due(1).is_none());
-    assert!(rt; changes_nothing(alloc, &mut node, STAT)?);
+    let once = effect_of(alloc, &mut node, to, bytes)?;
+    let again = effect_of(alloc, &mut node, to, bytes)?;
+    Ok([once, again])
+}
+
+#[test]
+fn each_envelope_has_its_effect(rt: HostRuntime) -> Result<(), Fail> {
+    for (to, bytes, is_record, wanted) in ROWS {
+        assert_eq!(rt; decode(rt.alloc(), bytes).is_ok(), is_record, "{bytes:?}");
+        assert_eq!(rt; effects(rt.alloc(), to, bytes)?, wanted, "{to:?} {bytes:?}");
+    }
     Ok(())
 }

@@ -7,6 +7,3 @@ mod table;
 
 pub use hash::name_hash;
 pub use table::{Table, WithFault};
-
-#[cfg(test)]
-mod tests;

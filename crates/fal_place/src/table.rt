@@ -54,6 +54,13 @@ impl Table {
         }
     }
 
+    /// How many nodes there are, from 0 on. Takes no memory.
+    pub fn nodes(&self) -> u8
+        ensures { result ≡ self.now.nodes }
+    {
+        self.nodes
+    }
+
     /// How many placement changes it comes after. Takes no memory.
     pub fn version(&self) -> u32
         ensures { result ≡ self.now.version }

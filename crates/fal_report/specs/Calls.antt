@@ -26,14 +26,14 @@ unfoldable pub path_op : List ℕ → PathArg → List ℕ
 path_op word path = word ++ codes " " ++ path_text path
 
 -- a further argument that is a number
-unfoldable pub number_word : ℕ → List ℕ
-number_word n = codes " " ++ decimal n
+unfoldable pub spaced_number : ℕ → List ℕ
+spaced_number n = codes " " ++ decimal n
 
-unfoldable pub mode_word : ℕ → List ℕ
-mode_word mode = codes " " ++ mode_text mode
+unfoldable pub spaced_mode : ℕ → List ℕ
+spaced_mode mode = codes " " ++ mode_text mode
 
-unfoldable pub path_word : PathArg → List ℕ
-path_word path = codes " " ++ path_text path
+unfoldable pub spaced_path : PathArg → List ℕ
+spaced_path path = codes " " ++ path_text path
 
 unfoldable pub rule_text : Rule → List ℕ
 rule_text rule.Hash = codes "hash"
@@ -44,16 +44,16 @@ unfoldable pub place_op : List ℕ → Rule → List ℕ
 place_op name rule = codes "place " ++ escaped name ++ codes " " ++ rule_text rule
 
 abbrev pub op_text : Op → List ℕ
-op_text (op.Mkdir path mode) = path_op (codes "mkdir") path ++ mode_word mode
-op_text (op.Create path mode) = path_op (codes "create") path ++ mode_word mode
+op_text (op.Mkdir path mode) = path_op (codes "mkdir") path ++ spaced_mode mode
+op_text (op.Create path mode) = path_op (codes "create") path ++ spaced_mode mode
 op_text (op.Stat path) = path_op (codes "stat") path
-op_text (op.Access path want) = path_op (codes "access") path ++ number_word want
-op_text (op.Chmod path mode) = path_op (codes "chmod") path ++ mode_word mode
-op_text (op.Chown path uid gid) = path_op (codes "chown") path ++ number_word uid ++ number_word gid
-op_text (op.Truncate path size) = path_op (codes "truncate") path ++ number_word size
+op_text (op.Access path want) = path_op (codes "access") path ++ spaced_number want
+op_text (op.Chmod path mode) = path_op (codes "chmod") path ++ spaced_mode mode
+op_text (op.Chown path uid gid) = path_op (codes "chown") path ++ spaced_number uid ++ spaced_number gid
+op_text (op.Truncate path size) = path_op (codes "truncate") path ++ spaced_number size
 op_text (op.Unlink path) = path_op (codes "unlink") path
 op_text (op.Rmdir path) = path_op (codes "rmdir") path
-op_text (op.Rename old new) = path_op (codes "rename") old ++ path_word new
+op_text (op.Rename old new) = path_op (codes "rename") old ++ spaced_path new
 op_text (op.List path) = path_op (codes "list") path
 op_text (op.Place name rule) = place_op name rule
 

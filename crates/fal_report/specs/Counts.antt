@@ -33,11 +33,11 @@ is_granted entry = answers (λ reply. not (is_errno reply)) entry
 abbrev pub is_failed : Entry → Bool
 is_failed entry = answers is_errno entry
 
-abbrev pub is_directory : TreeLine → Bool
-is_directory row = is_dir row.inode
+abbrev pub is_directory_row : TreeLine → Bool
+is_directory_row row = is_dir row.inode
 
-abbrev pub is_file : TreeLine → Bool
-is_file row = not (is_dir row.inode)
+abbrev pub is_file_row : TreeLine → Bool
+is_file_row row = not (is_dir row.inode)
 
 -- a label and its number
 unfoldable pub count_text : List ℕ → ℕ → List ℕ
@@ -50,4 +50,4 @@ entry_counts entries =
     ++ count_text (codes "failed") (count_by is_failed entries) ++ count_text (codes "commits") (count_by is_commit entries)
 
 abbrev pub row_counts : List TreeLine → List ℕ
-row_counts rows = count_text (codes "directories") (count_by is_directory rows) ++ count_text (codes "files") (count_by is_file rows)
+row_counts rows = count_text (codes "directories") (count_by is_directory_row rows) ++ count_text (codes "files") (count_by is_file_row rows)

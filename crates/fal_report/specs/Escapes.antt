@@ -4,15 +4,15 @@ use Rattle.std.specs.Prelude.{ℕ, ◌+◌, ◌/◌, ◌%◌, Bool, not, ◌&&�
 use Rattle.std.specs.List.{flat_map}
 
 -- the percent sign is 37
-abbrev pub is_plain : ℕ → Bool
-is_plain byte = nat_lt 32 byte && nat_lt byte 127 && not (byte == 37)
+abbrev pub is_plain_byte : ℕ → Bool
+is_plain_byte byte = nat_lt 32 byte && nat_lt byte 127 && not (byte == 37)
 
 -- 0 to 9, and then A to F
 abbrev pub hex_digit : ℕ → ℕ
 hex_digit n = if nat_lt n 10 then 48 + n else 55 + n
 
 unfoldable pub escaped_byte : ℕ → List ℕ
-escaped_byte byte = if is_plain byte then byte ∷ [] else 37 ∷ hex_digit (byte / 16) ∷ hex_digit (byte % 16) ∷ []
+escaped_byte byte = if is_plain_byte byte then byte ∷ [] else 37 ∷ hex_digit (byte / 16) ∷ hex_digit (byte % 16) ∷ []
 
 abbrev pub escaped : List ℕ → List ℕ
 escaped bytes = flat_map escaped_byte bytes

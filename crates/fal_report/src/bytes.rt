@@ -1,6 +1,6 @@
 ghost use Rattle.std.specs.Prelude.{◌≡◌, ◌++◌, ◌∷◌, ◌<◌, OnOk};
 ghost use Rattle.std.specs.List.{list_all};
-ghost use Rattle.fal_report.specs.Escapes.{is_plain as is_plain_byte, hex_digit as hex_digit_of, escaped_byte, escaped, each_after};
+ghost use Rattle.fal_report.specs.Escapes.{is_plain_byte, hex_digit as hex_digit_of, escaped_byte, escaped, each_after};
 
 use fal_base::{Name, OutOfMemory};
 

@@ -1,5 +1,5 @@
 ghost use Rattle.std.specs.Prelude.{◌≡◌, ◌++◌, OnOk};
-ghost use Rattle.fal_report.specs.Calls.{names_text, path_text, path_op, number_word, mode_word, path_word, rule_text, place_op, op_text, call_text};
+ghost use Rattle.fal_report.specs.Calls.{names_text, path_text, path_op, spaced_number, spaced_mode, spaced_path, rule_text, place_op, op_text, call_text};
 
 use crate::bytes::{put, put_each_after, put_escaped};
 use crate::inodes::{put_mode, put_owner};
@@ -37,25 +37,25 @@ fn put_path_op(out: &mut Vec<u8>, word: &[u8], path: &PathArg) -> Result<(), Out
     Ok(())
 }
 
-#[tactic(auto, unfolding(crate::specs::Calls::number_word))]
-fn put_number_word(out: &mut Vec<u8>, n: u64) -> Result<(), OutOfMemory>
-    ensures { OnOk result (out.new.items ≡ out.old.items ++ number_word n) }
+#[tactic(auto, unfolding(crate::specs::Calls::spaced_number))]
+fn put_spaced_number(out: &mut Vec<u8>, n: u64) -> Result<(), OutOfMemory>
+    ensures { OnOk result (out.new.items ≡ out.old.items ++ spaced_number n) }
 {
     write!(out, " {n}").map_err(|_| OutOfMemory)
 }
 
-#[tactic(auto, unfolding(crate::specs::Calls::mode_word))]
-fn put_mode_word(out: &mut Vec<u8>, mode: u16) -> Result<(), OutOfMemory>
-    ensures { OnOk result (out.new.items ≡ out.old.items ++ mode_word mode) }
+#[tactic(auto, unfolding(crate::specs::Calls::spaced_mode))]
+fn put_spaced_mode(out: &mut Vec<u8>, mode: u16) -> Result<(), OutOfMemory>
+    ensures { OnOk result (out.new.items ≡ out.old.items ++ spaced_mode mode) }
 {
     put(out, b" ")?;
     put_mode(out, mode)?;
     Ok(())
 }
 
-#[tactic(auto, unfolding(crate::specs::Calls::path_word))]
-fn put_path_word(out: &mut Vec<u8>, path: &PathArg) -> Result<(), OutOfMemory>
-    ensures { OnOk result (out.new.items ≡ out.old.items ++ path_word path.now) }
+#[tactic(auto, unfolding(crate::specs::Calls::spaced_path))]
+fn put_spaced_path(out: &mut Vec<u8>, path: &PathArg) -> Result<(), OutOfMemory>
+    ensures { OnOk result (out.new.items ≡ out.old.items ++ spaced_path path.now) }
 {
     put(out, b" ")?;
     put_path(out, path)?;
@@ -90,35 +90,35 @@ fn put_op(out: &mut Vec<u8>, op: &Op) -> Result<(), OutOfMemory>
     match op {
         Op::Mkdir { path, mode } => {
             put_path_op(out, b"mkdir", path)?;
-            put_mode_word(out, *mode)
+            put_spaced_mode(out, *mode)
         }
         Op::Create { path, mode } => {
             put_path_op(out, b"create", path)?;
-            put_mode_word(out, *mode)
+            put_spaced_mode(out, *mode)
         }
         Op::Stat { path } => put_path_op(out, b"stat", path),
         Op::Access { path, want } => {
             put_path_op(out, b"access", path)?;
-            put_number_word(out, u64::from(*want))
+            put_spaced_number(out, u64::from(*want))
         }
         Op::Chmod { path, mode } => {
             put_path_op(out, b"chmod", path)?;
-            put_mode_word(out, *mode)
+            put_spaced_mode(out, *mode)
         }
         Op::Chown { path, uid, gid } => {
             put_path_op(out, b"chown", path)?;
-            put_number_word(out, u64::from(*uid))?;
-            put_number_word(out, u64::from(*gid))
+            put_spaced_number(out, u64::from(*uid))?;
+            put_spaced_number(out, u64::from(*gid))
         }
         Op::Truncate { path, size } => {
             put_path_op(out, b"truncate", path)?;
-            put_number_word(out, *size)
+            put_spaced_number(out, *size)
         }
         Op::Unlink { path } => put_path_op(out, b"unlink", path),
         Op::Rmdir { path } => put_path_op(out, b"rmdir", path),
         Op::Rename { old, new } => {
             put_path_op(out, b"rename", old)?;
-            put_path_word(out, new)
+            put_spaced_path(out, new)
         }
         Op::List { path } => put_path_op(out, b"list", path),
         Op::Place { name, rule } => put_place_op(out, name, *rule),

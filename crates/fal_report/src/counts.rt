@@ -1,6 +1,6 @@
 ghost use Rattle.std.specs.Prelude.{◌≡◌, ◌++◌, count_by, OnOk};
 ghost use Rattle.fal_base.specs.Transcript.{is_commit};
-ghost use Rattle.fal_report.specs.Counts.{is_errno, is_answer, is_granted, is_failed, is_directory, is_file, count_text, entry_counts, row_counts};
+ghost use Rattle.fal_report.specs.Counts.{is_errno, is_answer, is_granted, is_failed, is_directory_row, is_file_row, count_text, entry_counts, row_counts};
 
 use crate::bytes::put;
 use fal_base::{Entry, Kind, OutOfMemory, Reply, TreeLine};
@@ -67,7 +67,7 @@ fn commits(entries: &[Entry]) -> usize
 }
 
 fn directories(rows: &[TreeLine]) -> usize
-    ensures { result ≡ count_by is_directory rows.now }
+    ensures { result ≡ count_by is_directory_row rows.now }
 {
     rows.iter()
         .filter(|row| row.inode.kind == Kind::Dir)
@@ -75,7 +75,7 @@ fn directories(rows: &[TreeLine]) -> usize
 }
 
 fn files(rows: &[TreeLine]) -> usize
-    ensures { result ≡ count_by is_file rows.now }
+    ensures { result ≡ count_by is_file_row rows.now }
 {
     rows.iter()
         .filter(|row| row.inode.kind == Kind::File)

@@ -13,6 +13,3 @@ mod text;
 
 pub use calls::put_call;
 pub use text::{summary_of, text_of};
-
-#[cfg(test)]
-mod tests;

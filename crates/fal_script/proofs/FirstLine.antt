@@ -3,7 +3,7 @@ use Rattle.std.proofs.Common.{◌≡◌, ◌≢◌, ℕ, zero, suc, ◌<◌, tru
 use Rattle.std.specs.Option.{option_map}
 use Rattle.std.proofs.lemmas.Bool.Decides.{nat_tests}
 use Rattle.std.proofs.lemmas.Grind.{common_steps}
-use Rattle.fal_script.specs.Lines.{lines_of, longer, ended, Cuts, EndsAt}
+use Rattle.fal_script.specs.Lines.{text_lines, longer, ended, Cuts, EndsAt}
 
 longer_first : (b : ℕ) (line : List ℕ) (lines : Option (List (List ℕ))) → longer b (option_map (λ ls. line ∷ ls) lines) ≡ option_map (λ ls. (b ∷ line) ∷ ls) lines
 longer_first b line None = refl
@@ -17,15 +17,15 @@ other_byte b is = grind (arith, nat_tests)
 
 -- the first line, and then those of the rest
 pub first_line : (bytes : List ℕ) (at : ℕ) → at < length bytes → get_or bytes at 0 ≡ 10 → ((k : ℕ) → k < at → get_or bytes k 0 ≢ 10)
-    → lines_of bytes ≡ option_map (λ lines. take at bytes ∷ lines) (lines_of (drop (suc at) bytes))
+    → text_lines bytes ≡ option_map (λ lines. take at bytes ∷ lines) (text_lines (drop (suc at) bytes))
 first_line [] at within is before = absurd (omega arith)
 first_line (b ∷ bs) zero within is before = rw (same_byte b is) refl
 first_line (b ∷ bs) (suc at) within is before =
     rw (other_byte b (before 0 (omega arith)))
-    (ap (longer b) (first_line bs at (omega arith) is (λ k lt. before (suc k) (omega arith))) ∙ longer_first b (take at bs) (lines_of (drop (suc at) bs)))
+    (ap (longer b) (first_line bs at (omega arith) is (λ k lt. before (suc k) (omega arith))) ∙ longer_first b (take at bs) (text_lines (drop (suc at) bs)))
 
 -- no line feed, no line
-pub no_line : (bytes : List ℕ) → ((k : ℕ) → k < length bytes → get_or bytes k 0 ≢ 10) → lines_of bytes ≡ ended bytes
+pub no_line : (bytes : List ℕ) → ((k : ℕ) → k < length bytes → get_or bytes k 0 ≢ 10) → text_lines bytes ≡ ended bytes
 no_line [] none = refl
 no_line (b ∷ []) none = rw (other_byte b (none 0 (omega arith))) refl
 no_line (b ∷ c ∷ bs) none =

@@ -13,11 +13,11 @@ use Rattle.fal_script.specs.declared.script.Script.{Script}
 use Rattle.fal_script.specs.declared.script.ScriptCall.{ScriptCall}
 use Rattle.fal_script.specs.declared.words.Verb.{Verb}
 use Rattle.fal_script.specs.declared.words.Verb.TheVariants.{Mkdir, Create, Stat, Access, Truncate, Unlink}
-use Rattle.fal_script.specs.Numbers.{is_number, value_after, number_up_to, from_one, number_from_one, is_octal, mode_word}
-use Rattle.fal_script.specs.Calls.{is_word, is_plain, path_word, cred_parts, cred_word, verb_word, path_argument, two_arguments, op_words, verb_call, count_word, lane_word, on_lane, call_words}
-use Rattle.fal_script.specs.Lines.{lines_of}
-use Rattle.fal_script.specs.Script.{words_of, line_call, joined, calls_of, labelled, count, both, header, counted, headed, script_of}
-use Rattle.fal_script.specs.Ranges.{IsSpelled, IsSpelledOp, IsSpelledCall, IsSpelledLine, IsInRange}
+use Rattle.fal_script.specs.Numbers.{is_number, value_after, number_up_to, from_one, number_from_one, is_octal, spelled_mode}
+use Rattle.fal_script.specs.Calls.{is_word, is_path_spelling, spelled_path, cred_parts, cred_word, verb_word, path_argument, two_arguments, op_words, verb_call, count_word, lane_word, on_lane, call_words}
+use Rattle.fal_script.specs.Lines.{text_lines}
+use Rattle.fal_script.specs.Script.{words_of, line_call, with_first, calls_of, labelled, count, both, header, with_calls, headed, script_of}
+use Rattle.fal_script.specs.Ranges.{IsSpelled, IsSpelledOp, IsSpelledCall, IsSpelledLine, IsSpelledScript}
 
 -- what a test lets through has passed it
 let_through : {X : Type 0} (b : Bool) (o : Option X) (r : X) → cond b o None ≡ Some r → o ≡ Some r
@@ -51,8 +51,8 @@ counted_small most word n is = from_one_small most (number_up_to most word) n (n
 octal_small : (d : ℕ) → is_octal d ≡ true → d ≤ 55
 octal_small d is = leb-true d 55 (and_parts _ _ is).1
 
-mode_small : (word : List ℕ) (n : ℕ) → mode_word word ≡ Some n → n < 512
-unfolding mode_word
+mode_small : (word : List ℕ) (n : ℕ) → spelled_mode word ≡ Some n → n < 512
+unfolding spelled_mode
 mode_small [] n is = absurd (none-some _ is)
 mode_small (a ∷ []) n is = absurd (none-some _ is)
 mode_small (a ∷ b ∷ []) n is = absurd (none-some _ is)
@@ -86,9 +86,9 @@ cred_small : (word : List ℕ) (cred : Cred) → cred_word word ≡ Some cred �
 unfolding cred_word
 cred_small word cred is = parts_small _ cred is
 
-path_spelled : (word : List ℕ) (path : PathArg) → path_word word ≡ Some path → IsSpelled path
-unfolding path_word
-path_spelled word path is = (word, sym (cond_some (is_plain word) (path_arg_of word) path is).1)
+path_spelled : (word : List ℕ) (path : PathArg) → spelled_path word ≡ Some path → IsSpelled path
+unfolding spelled_path
+path_spelled word path is = (word, sym (cond_some (is_path_spelling word) (path_arg_of word) path is).1)
 
 one_spelled : (words : List (List ℕ)) (path : PathArg) → path_argument words ≡ Some path → IsSpelled path
 unfolding path_argument
@@ -107,17 +107,17 @@ unfolding two_arguments
 two_spelled form P holds [] pair is = absurd (none-some _ is)
 two_spelled form P holds (a ∷ []) pair is = absurd (none-some _ is)
 two_spelled form P holds (a ∷ b ∷ []) pair is =
-    option_and_then_some _ (path_word a) pair is (λ p first rest.
+    option_and_then_some _ (spelled_path a) pair is (λ p first rest.
     mapped _ (form b) pair rest (λ n second same. subst (IsPair P) same (record { path = path_spelled a p first; number = holds b n second })))
 two_spelled form P holds (a ∷ b ∷ c ∷ words) pair is = absurd (none-some _ is)
 
 op_spelled : (verb : Verb) (arguments : List (List ℕ)) (op : Op) → op_words verb arguments ≡ Some op → IsSpelledOp op
 op_spelled Mkdir arguments op is =
-    mapped _ (two_arguments mode_word arguments) op is (λ pair first same.
-    let pair_is = two_spelled mode_word (λ n. n < 512) mode_small arguments pair first in subst IsSpelledOp same (pair_is.path, pair_is.number))
+    mapped _ (two_arguments spelled_mode arguments) op is (λ pair first same.
+    let pair_is = two_spelled spelled_mode (λ n. n < 512) mode_small arguments pair first in subst IsSpelledOp same (pair_is.path, pair_is.number))
 op_spelled Create arguments op is =
-    mapped _ (two_arguments mode_word arguments) op is (λ pair first same.
-    let pair_is = two_spelled mode_word (λ n. n < 512) mode_small arguments pair first in subst IsSpelledOp same (pair_is.path, pair_is.number))
+    mapped _ (two_arguments spelled_mode arguments) op is (λ pair first same.
+    let pair_is = two_spelled spelled_mode (λ n. n < 512) mode_small arguments pair first in subst IsSpelledOp same (pair_is.path, pair_is.number))
 op_spelled Stat arguments op is = mapped _ (path_argument arguments) op is (λ path first same. subst IsSpelledOp same (one_spelled arguments path first))
 op_spelled Access arguments op is =
     mapped _ (two_arguments (number_up_to 7) arguments) op is (λ pair first same.
@@ -168,7 +168,7 @@ one_more lanes call calls first rest = record { at = each }
     each (suc j) line at = rest.at j line at
 
 joined_spelled : (lanes : ℕ) (call : Option ScriptCall) (calls : Option (List ScriptCall)) (all : List ScriptCall) → ((line : ScriptCall) → call ≡ Some line → IsSpelledLine lanes line)
-    → ((cs : List ScriptCall) → calls ≡ Some cs → AreSpelled lanes cs) → joined call calls ≡ Some all → AreSpelled lanes all
+    → ((cs : List ScriptCall) → calls ≡ Some cs → AreSpelled lanes cs) → with_first call calls ≡ Some all → AreSpelled lanes all
 joined_spelled lanes None calls all first rest is = absurd (none-some _ is)
 joined_spelled lanes (Some call) calls all first rest is =
     mapped _ calls all is (λ cs some same. subst (AreSpelled lanes) same (one_more lanes call cs (first call refl) (rest cs some)))
@@ -201,9 +201,9 @@ unfolding header
 header_small first second third counts is =
     both_small _ _ counts (count_small (codes "nodes") second) (count_small (codes "lanes") third) (let_through (is_word (codes "falcon-script 1") first) _ counts is)
 
-counted_in_range : (lines : List (List ℕ)) (counts : ℕ × ℕ) (script : Script) → AreCounts counts → counted lines counts ≡ Some script → IsInRange script
+counted_in_range : (lines : List (List ℕ)) (counts : ℕ × ℕ) (script : Script) → AreCounts counts → with_calls lines counts ≡ Some script → IsSpelledScript script
 counted_in_range lines (nodes, lanes) script small is =
-    mapped _ (calls_of lanes lines) script is (λ calls some same. subst IsInRange same (record {
+    mapped _ (calls_of lanes lines) script is (λ calls some same. subst IsSpelledScript same (record {
       some_nodes = small.nodes.some;
       nodes = small.nodes.within;
       some_lanes = small.lanes.some;
@@ -211,13 +211,13 @@ counted_in_range lines (nodes, lanes) script small is =
       lines = (calls_spelled lanes lines calls some).at;
     }))
 
-headed_in_range : (lines : List (List ℕ)) (script : Script) → headed lines ≡ Some script → IsInRange script
+headed_in_range : (lines : List (List ℕ)) (script : Script) → headed lines ≡ Some script → IsSpelledScript script
 headed_in_range [] script is = absurd (none-some _ is)
 headed_in_range (a ∷ []) script is = absurd (none-some _ is)
 headed_in_range (a ∷ b ∷ []) script is = absurd (none-some _ is)
 headed_in_range (a ∷ b ∷ c ∷ lines) script is =
-    option_and_then_some (counted lines) (header a b c) script is (λ counts some rest. counted_in_range lines counts script (header_small a b c counts some) rest)
+    option_and_then_some (with_calls lines) (header a b c) script is (λ counts some rest. counted_in_range lines counts script (header_small a b c counts some) rest)
 
 -- each script that is read is in range
-pub script_in_range : (bytes : List ℕ) (script : Script) → script_of bytes ≡ Some script → IsInRange script
-script_in_range bytes script is = option_and_then_some headed (lines_of bytes) script is (λ lines some rest. headed_in_range lines script rest)
+pub script_in_range : (bytes : List ℕ) (script : Script) → script_of bytes ≡ Some script → IsSpelledScript script
+script_in_range bytes script is = option_and_then_some headed (text_lines bytes) script is (λ lines some rest. headed_in_range lines script rest)

@@ -10,22 +10,22 @@ use Rattle.fal_base.specs.declared.op.Op.TheVariants as op
 use Rattle.fal_base.specs.declared.path.PathArg.{PathArg}
 use Rattle.fal_base.specs.PathArgs.{path_arg_of}
 use Rattle.fal_script.specs.declared.script.ScriptCall.{ScriptCall}
-use Rattle.fal_script.specs.Numbers.{number_up_to, number_from_one, mode_word}
+use Rattle.fal_script.specs.Numbers.{number_up_to, number_from_one, spelled_mode}
 use Rattle.fal_script.specs.declared.words.Verb.{Verb}
 use Rattle.fal_script.specs.declared.words.Verb.TheVariants.{Mkdir, Create, Stat, Access, Truncate, Unlink}
 
 unfoldable pub is_word : List ℕ → List ℕ → Bool
 is_word word bytes = pointwise ◌==◌ bytes word
 
-unfoldable pub are_plain : List ℕ → Bool
-are_plain word = list_all (λ b. nat_le 33 b && nat_le b 126 && not (b == 37)) word
+unfoldable pub are_path_bytes : List ℕ → Bool
+are_path_bytes word = list_all (λ b. nat_le 33 b && nat_le b 126 && not (b == 37)) word
 
 -- a path is spelled in bytes from 33 to 126 other than `%` (37), one at least
-unfoldable pub is_plain : List ℕ → Bool
-is_plain word = not (length word == 0) && are_plain word
+unfoldable pub is_path_spelling : List ℕ → Bool
+is_path_spelling word = not (length word == 0) && are_path_bytes word
 
-unfoldable pub path_word : List ℕ → Option PathArg
-path_word word = if is_plain word then Some (path_arg_of word) else None
+unfoldable pub spelled_path : List ℕ → Option PathArg
+spelled_path word = if is_path_spelling word then Some (path_arg_of word) else None
 
 -- two numbers joined by one `:` (58)
 abbrev pub cred_parts : List (List ℕ) → Option Cred
@@ -46,17 +46,17 @@ verb_word word =
 
 -- a path alone
 unfoldable pub path_argument : List (List ℕ) → Option PathArg
-path_argument (path ∷ []) = path_word path
+path_argument (path ∷ []) = spelled_path path
 path_argument other = None
 
 -- a path, and a number of some form
 unfoldable pub two_arguments : (List ℕ → Option ℕ) → List (List ℕ) → Option (PathArg × ℕ)
-two_arguments form (path ∷ number ∷ []) = option_and_then (λ p. option_map (λ n. (p, n)) (form number)) (path_word path)
+two_arguments form (path ∷ number ∷ []) = option_and_then (λ p. option_map (λ n. (p, n)) (form number)) (spelled_path path)
 two_arguments form other = None
 
 abbrev pub op_words : Verb → List (List ℕ) → Option Op
-op_words Mkdir arguments = option_map (λ a. op.Mkdir a.0 a.1) (two_arguments mode_word arguments)
-op_words Create arguments = option_map (λ a. op.Create a.0 a.1) (two_arguments mode_word arguments)
+op_words Mkdir arguments = option_map (λ a. op.Mkdir a.0 a.1) (two_arguments spelled_mode arguments)
+op_words Create arguments = option_map (λ a. op.Create a.0 a.1) (two_arguments spelled_mode arguments)
 op_words Stat arguments = option_map (λ p. op.Stat p) (path_argument arguments)
 op_words Access arguments = option_map (λ a. op.Access a.0 a.1) (two_arguments (number_up_to 7) arguments)
 op_words Truncate arguments = option_map (λ a. op.Truncate a.0 a.1) (two_arguments (number_up_to 9223372036854775807) arguments)

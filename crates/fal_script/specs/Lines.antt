@@ -9,9 +9,9 @@ longer b (Some []) = None
 longer b (Some (line ∷ lines)) = Some ((b ∷ line) ∷ lines)
 
 -- the lines, or none where the last one is not ended
-abbrev pub lines_of : List ℕ → Option (List (List ℕ))
-lines_of [] = Some []
-lines_of (b ∷ bs) = if b == 10 then option_map (λ lines. [] ∷ lines) (lines_of bs) else longer b (lines_of bs)
+abbrev pub text_lines : List ℕ → Option (List (List ℕ))
+text_lines [] = Some []
+text_lines (b ∷ bs) = if b == 10 then option_map (λ lines. [] ∷ lines) (text_lines bs) else longer b (text_lines bs)
 
 -- what no line feed ends: nothing is no line, and anything else is none
 abbrev pub ended : List ℕ → Option (List (List ℕ))
@@ -20,8 +20,8 @@ ended (b ∷ bs) = None
 
 -- the first line, and what comes after it, or none where there is no line feed
 abbrev pub Cuts : List ℕ → Option (List ℕ × List ℕ) → Type 0
-Cuts bytes None = lines_of bytes ≡ ended bytes
-Cuts bytes (Some (line, rest)) = (lines_of bytes ≡ option_map (λ lines. line ∷ lines) (lines_of rest)) × (length rest < length bytes)
+Cuts bytes None = text_lines bytes ≡ ended bytes
+Cuts bytes (Some (line, rest)) = (text_lines bytes ≡ option_map (λ lines. line ∷ lines) (text_lines rest)) × (length rest < length bytes)
 
 -- there is no line feed before this place, and one at it, or none at all
 abbrev pub EndsAt : List ℕ → Option ℕ → Type 0

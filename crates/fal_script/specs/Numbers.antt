@@ -34,6 +34,6 @@ abbrev pub is_octal : ℕ → Bool
 is_octal b = nat_le 48 b && nat_le b 55
 
 -- a mode has three octal digits
-unfoldable pub mode_word : List ℕ → Option ℕ
-mode_word (a ∷ b ∷ c ∷ []) = if is_octal a && is_octal b && is_octal c then Some (64 * (a - 48) + 8 * (b - 48) + (c - 48)) else None
-mode_word other = None
+unfoldable pub spelled_mode : List ℕ → Option ℕ
+spelled_mode (a ∷ b ∷ c ∷ []) = if is_octal a && is_octal b && is_octal c then Some (64 * (a - 48) + 8 * (b - 48) + (c - 48)) else None
+spelled_mode other = None

@@ -35,7 +35,7 @@ pub record IsSpelledLine (lanes : ℕ) (line : ScriptCall) : Type 0 where
   pub call : IsSpelledCall line.call
 
 -- there are 1 to 16 nodes and 1 to 16 lanes, and each line is one of the grammar
-pub record IsInRange (script : Script) : Type 0 where
+pub record IsSpelledScript (script : Script) : Type 0 where
   pub some_nodes : 1 ≤ script.nodes
   pub nodes : script.nodes ≤ 16
   pub some_lanes : 1 ≤ script.lanes

@@ -1,7 +1,7 @@
 ghost use Rattle.std.specs.Prelude.{◌≡◌, ◌≤◌, IfOk, IfSome, map};
 ghost use Rattle.std.specs.Option.{option_map, option_and_then};
 ghost use Rattle.fal_script.specs.Calls.{path_argument as path_argument_of, two_arguments, op_words as op_of, verb_call as verb_call_of, on_lane as on_lane_of, call_words as call_of};
-ghost use Rattle.fal_script.specs.Numbers.{mode_word as mode_of, number_up_to as number_of};
+ghost use Rattle.fal_script.specs.Numbers.{spelled_mode as mode_of, number_up_to as number_of};
 ghost use Rattle.fal_base.specs.declared.op.Op.TheVariants.{Mkdir as MkdirOp, Create as CreateOp, Stat as StatOp, Access as AccessOp, Truncate as TruncateOp, Unlink as UnlinkOp};
 
 use crate::numbers::{mode_word, number_up_to};

@@ -11,6 +11,9 @@ mod reading;
 mod script;
 mod words;
 
+pub use calls::call_words;
 pub use configs::config_of;
+pub use numbers::{mode_word, number_up_to};
 pub use reading::read;
 pub use script::{LineList, Script, ScriptCall};
+pub use words::{cred_word, path_word};

@@ -1,5 +1,5 @@
 ghost use Rattle.std.specs.Prelude.{◌≡◌, ◌<◌, ◌≤◌, ◌+◌, ◌^◌, IsTrue, IfSome, length, true};
-ghost use Rattle.fal_script.specs.Numbers.{is_number as is_number_of, are_digits as are_digits_of, value_after, number_up_to as number_of, number_from_one as from_one_of, mode_word as mode_of};
+ghost use Rattle.fal_script.specs.Numbers.{is_number as is_number_of, are_digits as are_digits_of, value_after, number_up_to as number_of, number_from_one as from_one_of, spelled_mode as mode_of};
 
 #[tactic(auto, unfolding(crate::specs::Numbers::are_digits))]
 fn are_digits(word: &[u8]) -> bool
@@ -61,7 +61,7 @@ pub fn number_from_one(most: u8, word: &[u8]) -> Option<u8>
 }
 
 /// The mode that a word spells in three octal digits.
-#[tactic(auto, unfolding(crate::specs::Numbers::mode_word))]
+#[tactic(auto, unfolding(crate::specs::Numbers::spelled_mode))]
 pub fn mode_word(word: &[u8]) -> Option<u16>
     ensures { result ≡ mode_of word.now }
 {

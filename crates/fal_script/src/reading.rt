@@ -1,7 +1,7 @@
 ghost use Rattle.std.specs.Prelude.{◌≡◌, ◌==◌, IfOk, map};
 ghost use Rattle.std.specs.List.{slice_split};
 ghost use Rattle.std.specs.Option.{option_and_then};
-ghost use Rattle.fal_script.specs.Lines.{lines_of};
+ghost use Rattle.fal_script.specs.Lines.{text_lines};
 ghost use Rattle.fal_script.specs.Script.{words_of, line_call as line_call_of, calls_of, labelled as labelled_of, count as count_of, header as header_of, script_of};
 
 use crate::calls::call_words;
@@ -76,7 +76,7 @@ fn header(
 
 // The calls of the lines after the header, or none where they are not in the grammar.
 fn line_calls(alloc: Global, lanes: u8, bytes: &[u8]) -> Result<Option<LineList>, OutOfMemory>
-    ensures { IfOk result (λ calls. calls ≡ option_and_then (calls_of lanes) (lines_of bytes.now)) }
+    ensures { IfOk result (λ calls. calls ≡ option_and_then (calls_of lanes) (text_lines bytes.now)) }
 {
     let mut calls = LineList::new(alloc);
     let mut rest = bytes;

@@ -1,6 +1,6 @@
 ghost use Rattle.std.specs.Prelude.{◌≡◌, ◌<◌, ◌≤◌, IfOk, map, ◌==◌};
 ghost use Rattle.std.specs.List.{slice_split};
-ghost use Rattle.fal_script.specs.Calls.{is_word as is_word_of, is_plain as is_plain_of, are_plain as are_plain_of, path_word as path_of, cred_word as cred_of, cred_parts as parts_of, verb_word as verb_of, count_word as count_of, lane_word as lane_of};
+ghost use Rattle.fal_script.specs.Calls.{is_word as is_word_of, is_path_spelling as is_plain_of, are_path_bytes as are_plain_of, spelled_path as path_of, cred_word as cred_of, cred_parts as parts_of, verb_word as verb_of, count_word as count_of, lane_word as lane_of};
 
 use crate::numbers::{number_from_one, number_up_to};
 use fal_base::{Cred, OutOfMemory, PathArg};
@@ -24,14 +24,14 @@ pub fn is_word(bytes: &[u8], word: &[u8]) -> bool
     bytes == word
 }
 
-#[tactic(auto, unfolding(crate::specs::Calls::are_plain))]
+#[tactic(auto, unfolding(crate::specs::Calls::are_path_bytes))]
 fn are_plain(word: &[u8]) -> bool
     ensures { result ≡ are_plain_of word.now }
 {
     word.iter().all(|b| 33 <= *b && *b <= 126 && *b != b'%')
 }
 
-#[tactic(auto, unfolding(crate::specs::Calls::is_plain))]
+#[tactic(auto, unfolding(crate::specs::Calls::is_path_spelling))]
 fn is_plain(word: &[u8]) -> bool
     ensures { result ≡ is_plain_of word.now }
 {
@@ -39,7 +39,7 @@ fn is_plain(word: &[u8]) -> bool
 }
 
 /// The path that a word spells, good or bad, where all its bytes are plain.
-#[tactic(auto, unfolding(crate::specs::Calls::path_word))]
+#[tactic(auto, unfolding(crate::specs::Calls::spelled_path))]
 pub fn path_word(alloc: Global, word: &[u8]) -> Result<Option<PathArg>, OutOfMemory>
     ensures { IfOk result (λ path. path ≡ path_of word.now) }
 {

@@ -1,37 +1,19 @@
--- One event of an actor keeps what holds of every legal run.
-use Rattle.std.proofs.Common.{◌≡◌, ℕ, ◌<◌, Some}
-use Rattle.std.specs.Prelude.{IsTrue}
-use Rattle.std.specs.List.{All}
-use Rattle.fal_base.specs.declared.call.Config.{Config}
-use Rattle.fal_client.specs.declared.event.ClientEvent.{ClientEvent}
-use Rattle.fal_client.specs.declared.event.ClientEvent.TheVariants as client
-use Rattle.fal_client.specs.State.{ClientMove}
-use Rattle.fal_client.specs.Step.{client_move}
-use Rattle.fal_node.specs.declared.event.NodeEvent.{NodeEvent}
-use Rattle.fal_node.specs.declared.event.NodeEvent.TheVariants as node
-use Rattle.fal_node.specs.Letters.{Work}
-use Rattle.fal_node.specs.Step.{node_step}
-use Rattle.fal_wire.specs.Messages.{Fits}
-use Rattle.fal_story.proofs.ClientEvent.{EndsClient, send_event, get_event}
-use Rattle.fal_story.proofs.DeliverEvent.{deliver_event}
-use Rattle.fal_story.proofs.ExecEvent.{exec_event}
-use Rattle.fal_story.proofs.GatherEvent.{gather_event}
-use Rattle.fal_story.proofs.InStep.{Ends}
-use Rattle.fal_story.proofs.Ranges.{Comes, ComesToClient}
-use Rattle.fal_story.proofs.ServeEvent.{serve_event, release_event}
-use Rattle.fal_story.proofs.Shows.{Ghost, Shows}
-use Rattle.fal_story.specs.Clusters.{IsCluster, is_lane}
-use Rattle.fal_story.specs.World.{World}
-
-pub node_event : (config : Config) (w : World) (n : ℕ) (h : Ghost) (e : NodeEvent) (work : Work) → IsCluster config → n < config.nodes → Shows config w h → Comes w e
-    → node_step (w.nodes n) e ≡ Some work → All (λ letter. Fits letter.message) work.sent → Ends config w n work
-node_event config w n h (node.Deliver x) work cluster there shows comes is fit = deliver_event config w n comes.0 x h work cluster there shows comes.1 is fit
-node_event config w n h node.Gather work cluster there shows comes is fit = gather_event config w n h work cluster there shows is fit
-node_event config w n h (node.Exec number) work cluster there shows comes is fit = exec_event config w n number h work cluster there shows is fit
-node_event config w n h (node.Release number) work cluster there shows comes is fit = release_event config w n number h work cluster there shows is fit
-node_event config w n h (node.Serve number) work cluster there shows comes is fit = serve_event config w n number h work cluster there shows is fit
-
-pub client_event : (config : Config) (w : World) (l : ℕ) (h : Ghost) (e : ClientEvent) (m : ClientMove) → IsCluster config → IsTrue (is_lane config l) → Shows config w h → ComesToClient w e
-    → client_move (w.clients l) e ≡ Some m → All (λ s. Fits s.message) m.messages → EndsClient config w l m
-client_event config w l h client.Send m cluster there shows comes is fit = send_event config w l h m cluster there shows is fit
-client_event config w l h (client.Get x) m cluster there shows comes is fit = get_event config w l comes.0 x h m cluster shows comes.1 is fit
+pub mod ClientEvent
+pub mod DeliverEvent
+pub mod Enabled
+pub mod EnabledClient
+pub mod ExecEvent
+pub mod ExecStep
+pub mod Fates
+pub mod GatherEvent
+pub mod GatherPhases
+pub mod Going
+pub mod GotEvent
+pub mod HeldCalls
+pub mod InStep
+pub mod Kept
+pub mod LegalRuns
+pub mod Opening
+pub mod Sends
+pub mod ServeEvent
+pub mod Shows

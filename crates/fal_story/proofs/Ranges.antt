@@ -1,55 +1,15 @@
--- What holds of every value that an actor keeps, so that each record that it makes is within the ranges of the format, and no counter passes the end of its type.
-use Rattle.std.proofs.Common.{◌≡◌, ℕ, ◌+◌, ◌≤◌, length, Some}
-use Rattle.std.specs.Prelude.{slice_get}
-use Rattle.fal_base.specs.declared.event.Envelope.{Envelope}
-use Rattle.fal_base.specs.declared.inode.Dentry.{Dentry}
-use Rattle.fal_base.specs.declared.inode.Inode.{Inode}
-use Rattle.fal_base.specs.declared.key.Key.{Key}
-use Rattle.fal_base.specs.Maps.{value_at}
-use Rattle.fal_base.specs.Tree.{row_at}
-use Rattle.fal_client.specs.declared.event.ClientEvent.{ClientEvent}
-use Rattle.fal_client.specs.declared.event.ClientEvent.TheVariants as client
-use Rattle.fal_node.specs.declared.event.NodeEvent.{NodeEvent}
-use Rattle.fal_node.specs.declared.event.NodeEvent.TheVariants as node
-use Rattle.fal_node.specs.State.{NodeState}
-use Rattle.fal_wire.specs.declared.message.Message.{Message}
-use Rattle.fal_wire.specs.Messages.{Fits, FieldsFit, spelling}
-use Rattle.fal_wire.specs.Ops.{call_field}
-use Rattle.fal_wire.specs.Rows.{inode_field, dentry_field}
-use Rattle.fal_story.proofs.Each.{Each}
-use Rattle.fal_story.specs.World.{World}
-
--- every call, row, directory and item that a node keeps can be spelled, and a batch is no larger than 64 calls
-pub record IsNodeRanged (x : NodeState) : Type 0 where
-  pub rows : (key : Key) (inode : Inode) → row_at x.rows key ≡ Some inode → inode_field.Fits inode
-  pub replica : (key : Key) (dentry : Dentry) → value_at x.replica key ≡ Some dentry → dentry_field.Fits dentry
-  pub waiting : Each (λ w. call_field.Fits w.call) x.waiting.calls
-  pub items : Each (λ item. FieldsFit item.message) x.items
-  pub batches : Each (λ batch. (length batch.calls ≤ 64) × Each (λ planned. call_field.Fits planned.call) batch.calls) x.batches
-
--- the counters of a node after so many events of the cluster: each event raises one of them by one, but for fetches, of which one Gather may open several.
--- These are counted by the pending ones, of which there are no more than waiting calls.
-pub record IsNodeCounted (events : ℕ) (x : NodeState) : Type 0 where
-  pub tickets : x.waiting.tickets ≤ events
-  pub items : x.items_numbered ≤ events
-  pub batches : x.batches_numbered ≤ events
-  pub fetches : x.waiting.opened + x.waiting.tickets ≤ events + length x.waiting.fetches
-
--- the bytes of an envelope are a record
-abbrev pub IsRecord : Envelope → Type 0
-IsRecord envelope = (m : Message) × Fits m × (envelope.bytes ≡ spelling m)
-
-pub record IsRanged (w : World) : Type 0 where
-  pub nodes : (n : ℕ) → IsNodeRanged (w.nodes n)
-  pub counted : (n : ℕ) → IsNodeCounted w.events (w.nodes n)
-  pub envelopes : Each IsRecord w.envelopes
-
--- an envelope that comes was sent
-abbrev pub Comes : World → NodeEvent → Type 0
-Comes w (node.Deliver envelope) = (number : ℕ) × (slice_get w.envelopes number ≡ Some envelope)
-Comes w other = Unit {0}
-
--- and so was one that comes to a client
-abbrev pub ComesToClient : World → ClientEvent → Type 0
-ComesToClient w (client.Get envelope) = (number : ℕ) × (slice_get w.envelopes number ≡ Some envelope)
-ComesToClient w client.Send = Unit {0}
+pub mod Bounds
+pub mod ClientRanges
+pub mod Counters
+pub mod Counts
+pub mod DeliverRanges
+pub mod ExecRanges
+pub mod FateRanges
+pub mod FieldLengths
+pub mod Fitting
+pub mod GatherRanges
+pub mod InRange
+pub mod MessageRanges
+pub mod NodeRanges
+pub mod RowRanges
+pub mod WaitRanges

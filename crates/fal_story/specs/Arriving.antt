@@ -4,7 +4,8 @@ use Rattle.fal_base.specs.declared.call.Config.{Config}
 use Rattle.fal_base.specs.declared.event.Envelope.{Envelope}
 use Rattle.fal_base.specs.declared.event.Event.{Event}
 use Rattle.fal_story.specs.declared.inbox.Arrived.{Arrived}
-use Rattle.fal_story.specs.Pushing.{number_of, all_sent}
+use Rattle.fal_story.specs.Actors.{number_of}
+use Rattle.fal_story.specs.Pushing.{all_sent}
 
 -- the envelope is to the actor of this number, and was sent by event `from` or a later one
 abbrev pub arrives : ℕ → ℕ → Envelope → Bool

@@ -6,7 +6,7 @@ use Rattle.fal_base.specs.declared.call.Config.{Config}
 use Rattle.fal_base.specs.declared.op.Op.{Op}
 use Rattle.fal_base.specs.declared.op.Op.TheVariants as op
 use Rattle.fal_base.specs.Transcript.{numbered}
-use Rattle.fal_client.specs.Paths.{bad_path}
+use Rattle.fal_base.specs.OpPaths.{bad_path}
 use Rattle.fal_wire.specs.Numbers.{cred_field}
 use Rattle.fal_wire.specs.Ops.{op_field}
 

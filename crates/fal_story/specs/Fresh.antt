@@ -11,10 +11,14 @@ use Rattle.fal_base.specs.declared.event.Event.{Event}
 use Rattle.fal_base.specs.declared.event.Event.TheVariants as event
 use Rattle.fal_base.specs.declared.reply.Reply.{Reply}
 use Rattle.fal_client.specs.declared.event.ClientEvent.TheVariants as client
-use Rattle.fal_client.specs.Step.{client_move}
-use Rattle.fal_node.specs.declared.event.NodeEvent.{NodeEvent}
-use Rattle.fal_node.specs.declared.event.NodeEvent.TheVariants as node
+use Rattle.fal_client.specs.Step.{client_step}
+use Rattle.fal_node.specs.declared.event.OwnEvent.{OwnEvent}
+use Rattle.fal_node.specs.declared.event.OwnEvent.TheVariants as own
+use Rattle.fal_coord.specs.declared.event.CoordEvent.TheVariants as coord_event
+use Rattle.fal_coord.specs.State.{is_quiet as is_coord_quiet}
+use Rattle.fal_coord.specs.Step.{coord_step}
 use Rattle.fal_node.specs.Due.{dues, is_quiet}
+pub use Rattle.fal_story.specs.Actors.{is_actor}
 use Rattle.fal_story.specs.Run.{run}
 use Rattle.fal_story.specs.World.{World, put}
 
@@ -37,12 +41,6 @@ came events = came_from (λ number. false) events
 
 -- ---- what is due
 
-abbrev pub is_actor : Actor → Actor → Bool
-is_actor (Client a) (Client b) = a == b
-is_actor (Node a) (Node b) = a == b
-is_actor Coord Coord = true
-is_actor a b = false
-
 -- the number at the front where the envelope is the actor's and did not come
 abbrev pub due_with : Bool → Bool → ℕ → List ℕ → List ℕ
 due_with true false number numbers = number ∷ numbers
@@ -60,15 +58,14 @@ due actor came envelopes = due_from actor came 0 envelopes
 -- ---- fresh events, in their order
 
 -- a node's own event, as an event of the run
-abbrev pub event_of : ℕ → NodeEvent → Event
-event_of number (node.Deliver envelope) = event.Gather number
-event_of number node.Gather = event.Gather number
-event_of number (node.Exec batch) = event.Exec number batch
-event_of number (node.Release batch) = event.Release number batch
-event_of number (node.Serve item) = event.Serve number item
+abbrev pub event_of : ℕ → OwnEvent → Event
+event_of number own.Gather = event.Gather number
+event_of number (own.Exec batch) = event.Exec number batch
+event_of number (own.Release batch) = event.Release number batch
+event_of number (own.Serve item) = event.Serve number item
 
 abbrev pub fresh_send : World → ℕ → List Event
-fresh_send w lane = if is_some (client_move (w.clients lane) client.Send) then event.Send lane ∷ [] else []
+fresh_send w lane = if is_some (client_step (w.clients lane) client.Send) then event.Send lane ∷ [] else []
 
 -- what comes to a lane, by envelope number
 abbrev pub fresh_gets : World → (ℕ → Bool) → ℕ → List Event
@@ -79,24 +76,34 @@ abbrev pub fresh_at_node : World → (ℕ → Bool) → ℕ → List Event
 fresh_at_node w came number =
     map (λ envelope. event.Deliver number envelope) (due (Node number) came w.envelopes) ++ map (λ e. event_of number e) (dues (w.nodes number))
 
--- the lanes, from 1, and then the nodes, from 0
+abbrev pub fresh_start : World → List Event
+fresh_start w = if is_some (coord_step w.coord coord_event.Start) then event.Start ∷ [] else []
+
+-- what comes to the coordinator, by envelope number, and then its Start
+abbrev pub fresh_at_coord : World → (ℕ → Bool) → List Event
+fresh_at_coord w came = map (λ number. event.Hear number) (due Coord came w.envelopes) ++ fresh_start w
+
+-- the lanes, from 1, then the nodes, from 0, and then the coordinator
 abbrev pub fresh : Config → World → (ℕ → Bool) → List Event
 fresh config w came =
     flat_map (λ lane. fresh_send w lane ++ fresh_gets w came lane) (range_with_len 1 (length config.lanes))
     ++ flat_map (λ number. fresh_at_node w came number) (range_with_len 0 config.nodes)
+    ++ fresh_at_coord w came
 
 -- the same without Sends
 abbrev pub fresh_replies : Config → World → (ℕ → Bool) → List Event
 fresh_replies config w came =
     flat_map (λ lane. fresh_gets w came lane) (range_with_len 1 (length config.lanes))
     ++ flat_map (λ number. fresh_at_node w came number) (range_with_len 0 config.nodes)
+    ++ fresh_at_coord w came
 
 -- ---- quiet
 
--- every envelope came, and no node has a batch, a waiting call or an item
+-- every envelope came, no node has a batch, a waiting call or an item, and no call waits for the coordinator, which has no operation under way
 pub record IsQuiet (config : Config) (w : World) (came : ℕ → Bool) : Type 0 where
   pub all_came : (number : ℕ) (envelope : Envelope) → slice_get w.envelopes number ≡ Some envelope → came number ≡ true
   pub nodes : (number : ℕ) → is_quiet (w.nodes number) ≡ true
+  pub coord : is_coord_quiet w.coord ≡ true
 
 abbrev pub IsQuietAt : Config → Option World → (ℕ → Bool) → Type 0
 IsQuietAt config None came = ⊥

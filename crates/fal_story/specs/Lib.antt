@@ -1,8 +1,10 @@
+pub mod Actors
 pub mod AllRows
 pub mod Arriving
 pub mod Clusters
 pub mod Fresh
 pub mod Lasting
+pub mod Machines
 pub mod Pushing
 pub mod Replay
 pub mod Rooms

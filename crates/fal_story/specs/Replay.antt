@@ -1,51 +1,38 @@
 -- The replay of one actor: its opening state, changed by its own events alone, with the envelopes that were sent.
-use Rattle.std.specs.Prelude.{◌≡◌, ℕ, List, [], ◌∷◌, Option, Some, None, if◌then◌else◌, ◌==◌, slice_get}
+use Rattle.std.specs.Prelude.{◌≡◌, List, [], ◌∷◌, Option, Some, None}
 use Rattle.std.specs.Option.{option_map}
 use Rattle.fal_base.specs.declared.call.Config.{Config}
+use Rattle.fal_base.specs.declared.event.Actor.{Actor}
 use Rattle.fal_base.specs.declared.event.Envelope.{Envelope}
 use Rattle.fal_base.specs.declared.event.Event.{Event}
-use Rattle.fal_base.specs.declared.event.Event.TheVariants as event
-use Rattle.fal_client.specs.declared.event.ClientEvent.TheVariants as client
-use Rattle.fal_client.specs.State.{ClientState}
-use Rattle.fal_client.specs.Step.{client_move}
-use Rattle.fal_node.specs.declared.event.NodeEvent.TheVariants as node
-use Rattle.fal_node.specs.State.{NodeState}
-use Rattle.fal_node.specs.Step.{node_step}
-use Rattle.fal_story.specs.Run.{run, envelopes_at, client_hears, node_hears}
-use Rattle.fal_story.specs.World.{World, opening_world}
+use Rattle.fal_story.specs.Actors.{own_events}
+use Rattle.fal_story.specs.Machines.{Machine, Made, machine_step, envelope_named}
+use Rattle.fal_story.specs.Run.{run, envelopes_at, machine_in}
+use Rattle.fal_story.specs.World.{opening_world}
 
--- a client after one event, which is another actor's or its own
-abbrev pub client_after : List Envelope → ℕ → ClientState → Event → Option ClientState
-client_after envelopes lane c (event.Send other) = if other == lane then option_map (λ move. move.client) (client_move c client.Send) else Some c
-client_after envelopes lane c (event.Get other number) = if other == lane then option_map (λ move. move.client) (client_hears c (slice_get envelopes number)) else Some c
-client_after envelopes lane c other = Some c
+-- an event of an actor that got so far
+abbrev pub try_step : Config → List Envelope → Option Machine → Event → Option Made
+try_step config sent None e = None
+try_step config sent (Some m) e = machine_step config m e (envelope_named sent e)
 
--- a node after one event, which is another actor's or its own
-abbrev pub node_after : List Envelope → ℕ → NodeState → Event → Option NodeState
-node_after envelopes number n (event.Deliver other envelope) = if other == number then option_map (λ work. work.node) (node_hears n (slice_get envelopes envelope)) else Some n
-node_after envelopes number n (event.Gather other) = if other == number then option_map (λ work. work.node) (node_step n node.Gather) else Some n
-node_after envelopes number n (event.Exec other batch) = if other == number then option_map (λ work. work.node) (node_step n (node.Exec batch)) else Some n
-node_after envelopes number n (event.Release other batch) = if other == number then option_map (λ work. work.node) (node_step n (node.Release batch)) else Some n
-node_after envelopes number n (event.Serve other item) = if other == number then option_map (λ work. work.node) (node_step n (node.Serve item)) else Some n
-node_after envelopes number n other = Some n
+-- the actor after an event, if that was enabled
+abbrev pub machine_after : Option Made → Option Machine
+machine_after None = None
+machine_after (Some made) = Some made.0
 
-abbrev pub client_replay : List Envelope → ℕ → Option ClientState → List Event → Option ClientState
-client_replay envelopes lane c [] = c
-client_replay envelopes lane None (event ∷ events) = None
-client_replay envelopes lane (Some c) (event ∷ events) = client_replay envelopes lane (client_after envelopes lane c event) events
+-- an actor after further events of its own
+abbrev pub replay_from : Config → List Envelope → Option Machine → List Event → Option Machine
+replay_from config sent m [] = m
+replay_from config sent m (e ∷ es) = replay_from config sent (machine_after (try_step config sent m e)) es
 
-abbrev pub node_replay : List Envelope → ℕ → Option NodeState → List Event → Option NodeState
-node_replay envelopes number n [] = n
-node_replay envelopes number None (event ∷ events) = None
-node_replay envelopes number (Some n) (event ∷ events) = node_replay envelopes number (node_after envelopes number n event) events
+-- the actor before its first event
+abbrev pub opened : Config → Actor → Machine
+opened config actor = machine_in (opening_world config) actor
 
-abbrev pub client_at : ℕ → Option World → Option ClientState
-client_at lane world = option_map (λ w. w.clients lane) world
-
-abbrev pub node_at : ℕ → Option World → Option NodeState
-node_at number world = option_map (λ w. w.nodes number) world
+-- the actor after these events, which are its own, each given the envelope that it names; none where one of them was not enabled
+unfoldable pub replay : Config → List Envelope → Actor → List Event → Option Machine
+replay config sent actor own = replay_from config sent (Some (opened config actor)) own
 
 -- each actor of a run is the replay of its own events
-pub record IsReplayed (config : Config) (events : List Event) : Type 0 where
-  pub clients : (lane : ℕ) → client_replay (envelopes_at (run config events)) lane (Some ((opening_world config).clients lane)) events ≡ client_at lane (run config events)
-  pub nodes : (number : ℕ) → node_replay (envelopes_at (run config events)) number (Some ((opening_world config).nodes number)) events ≡ node_at number (run config events)
+abbrev pub IsReplayed : Config → List Event → Type 0
+IsReplayed config events = (actor : Actor) → replay config (envelopes_at (run config events)) actor (own_events actor events) ≡ option_map (λ w. machine_in w actor) (run config events)

@@ -1,39 +1,20 @@
 -- Legal runs: each event is enabled after those before it, and a record is delivered only after it was sent, any number of times and in any order.
-use Rattle.std.specs.Prelude.{◌≡◌, ℕ, ◌<◌, ◌^◌, Bool, true, false, List, [], ◌∷◌, length, map, Option, Some, None, IsSome, IsSomeAnd, slice_get}
+use Rattle.std.specs.Prelude.{◌≡◌, ℕ, ◌<◌, ◌^◌, List, [], ◌∷◌, length, Option, Some, None, IsSome, IsSomeAnd}
 use Rattle.fal_base.specs.declared.call.Config.{Config}
 use Rattle.fal_base.specs.declared.entry.Entry.{Entry}
 use Rattle.fal_base.specs.declared.event.Actor.{Actor}
-use Rattle.fal_base.specs.declared.event.Actor.TheVariants.{Client, Node}
+use Rattle.fal_base.specs.declared.event.Actor.TheVariants.{Client, Node, Coord}
 use Rattle.fal_base.specs.declared.event.Envelope.{Envelope}
 use Rattle.fal_base.specs.declared.event.Event.{Event}
-use Rattle.fal_base.specs.declared.event.Event.TheVariants as event
 use Rattle.fal_base.specs.declared.event.Note.{Note}
 use Rattle.fal_base.specs.declared.event.Output.{Output}
-use Rattle.fal_client.specs.declared.event.ClientEvent.TheVariants as client
-use Rattle.fal_client.specs.State.{ClientState, ClientMove}
-use Rattle.fal_client.specs.Step.{client_move, output_of as client_output}
-use Rattle.fal_node.specs.declared.event.NodeEvent.TheVariants as node
-use Rattle.fal_node.specs.Letters.{Work, output_of as node_output}
-use Rattle.fal_node.specs.State.{NodeState}
-use Rattle.fal_node.specs.Step.{node_step}
-use Rattle.fal_story.specs.Clusters.{IsCluster, is_lane, is_node}
+use Rattle.fal_client.specs.State.{Work as ClientWork}
+use Rattle.fal_node.specs.Letters.{Work}
+use Rattle.fal_story.specs.Actors.{actor_of}
+use Rattle.fal_story.specs.Clusters.{IsCluster}
+use Rattle.fal_story.specs.Machines.{Machine, ClientMachine, NodeMachine, CoordMachine, Made, envelope_named, client_made, node_made, machine_step}
+pub use Rattle.fal_story.specs.Machines.{only_where, client_hears, node_hears}
 use Rattle.fal_story.specs.World.{World, put, posted, opening_world}
-
--- what is there only where the test is passed
-abbrev pub only_where : {A : Type 0} → Bool → Option A → Option A
-only_where true x = x
-only_where false x = None
-
--- ---- what an actor makes of an event, if that is enabled
-
--- an envelope has to be sent before it comes
-abbrev pub client_hears : ClientState → Option Envelope → Option ClientMove
-client_hears c None = None
-client_hears c (Some envelope) = client_move c (client.Get envelope)
-
-abbrev pub node_hears : NodeState → Option Envelope → Option Work
-node_hears n None = None
-node_hears n (Some envelope) = node_step n (node.Deliver envelope)
 
 -- ---- what an event does to the cluster
 
@@ -44,27 +25,33 @@ pub record Deed : Type 0 where
   pub sent : List Output
   pub notes : List Note
 
-abbrev pub client_deed : World → ℕ → Option ClientMove → Option Deed
-client_deed w lane None = None
-client_deed w lane (Some move) =
-    Some (record { world = record w { clients = put w.clients lane move.client }; from = Client lane; sent = map client_output move.messages; notes = move.notes })
+-- an actor of the world
+abbrev pub machine_in : World → Actor → Machine
+machine_in w (Client lane) = ClientMachine (w.clients lane)
+machine_in w (Node number) = NodeMachine (w.nodes number)
+machine_in w Coord = CoordMachine w.coord
+
+-- the world in which that actor is this one, which is of the same kind
+abbrev pub with_machine : World → Actor → Machine → World
+with_machine w (Client lane) (ClientMachine c) = record w { clients = put w.clients lane c }
+with_machine w (Node number) (NodeMachine n) = record w { nodes = put w.nodes number n }
+with_machine w Coord (CoordMachine c) = record w { coord = c }
+with_machine w actor other = w
+
+-- what an actor made
+abbrev pub deed_by : World → Actor → Option Made → Option Deed
+deed_by w from None = None
+deed_by w from (Some made) = Some (record { world = with_machine w from made.0; from = from; sent = made.1.sent; notes = made.1.notes })
+
+abbrev pub client_deed : World → ℕ → Option ClientWork → Option Deed
+client_deed w lane move = deed_by w (Client lane) (client_made move)
 
 abbrev pub node_deed : World → ℕ → Option Work → Option Deed
-node_deed w number None = None
-node_deed w number (Some work) =
-    Some (record { world = record w { nodes = put w.nodes number work.node }; from = Node number; sent = map node_output work.sent; notes = work.notes })
+node_deed w number work = deed_by w (Node number) (node_made work)
 
--- none where the event is not enabled. No operation needs the coordinator yet, so nothing is ever sent to it
+-- what the actor of the event makes of it; none where the event is not enabled
 unfoldable pub deed : Config → World → Event → Option Deed
-deed config w (event.Send lane) = client_deed w lane (only_where (is_lane config lane) (client_move (w.clients lane) client.Send))
-deed config w (event.Get lane number) = client_deed w lane (only_where (is_lane config lane) (client_hears (w.clients lane) (slice_get w.envelopes number)))
-deed config w (event.Deliver number envelope) = node_deed w number (only_where (is_node config number) (node_hears (w.nodes number) (slice_get w.envelopes envelope)))
-deed config w (event.Gather number) = node_deed w number (only_where (is_node config number) (node_step (w.nodes number) node.Gather))
-deed config w (event.Exec number batch) = node_deed w number (only_where (is_node config number) (node_step (w.nodes number) (node.Exec batch)))
-deed config w (event.Release number batch) = node_deed w number (only_where (is_node config number) (node_step (w.nodes number) (node.Release batch)))
-deed config w (event.Serve number item) = node_deed w number (only_where (is_node config number) (node_step (w.nodes number) (node.Serve item)))
-deed config w (event.Hear number) = None
-deed config w event.Start = None
+deed config w e = deed_by w (actor_of e) (machine_step config (machine_in w (actor_of e)) e (envelope_named w.envelopes e))
 
 abbrev pub done : Config → Option Deed → Option World
 done config None = None

@@ -2,11 +2,8 @@
 use Rattle.std.specs.Prelude.{◌≡◌, ℕ, ◌<◌, ◌^◌, List, length, Option, Some, None}
 use Rattle.fal_base.specs.declared.call.Config.{Config}
 use Rattle.fal_base.specs.declared.entry.Entry.{Entry}
-use Rattle.fal_base.specs.declared.event.Actor.{Actor}
-use Rattle.fal_base.specs.declared.event.Actor.TheVariants.{Client, Node, Coord}
 use Rattle.fal_base.specs.declared.event.Envelope.{Envelope}
 use Rattle.fal_base.specs.declared.event.Event.{Event}
-use Rattle.fal_base.specs.declared.event.Event.TheVariants as event
 use Rattle.fal_story.specs.Clusters.{IsCluster}
 use Rattle.fal_story.specs.Run.{run}
 use Rattle.fal_story.specs.World.{World}
@@ -26,18 +23,6 @@ pub record Room : Type 0 where
 pub record Seen : Type 0 where
   pub told : Told
   pub room : Room
-
--- who makes an event
-abbrev pub actor_of : Event → Actor
-actor_of (event.Send lane) = Client lane
-actor_of (event.Get lane number) = Client lane
-actor_of (event.Deliver number envelope) = Node number
-actor_of (event.Gather number) = Node number
-actor_of (event.Exec number batch) = Node number
-actor_of (event.Release number batch) = Node number
-actor_of (event.Serve number item) = Node number
-actor_of (event.Hear number) = Coord
-actor_of event.Start = Coord
 
 -- the run is legal, and these are its envelopes and entries, and so many its commits and events
 abbrev pub HasAt : Option World → List Envelope → List Entry → ℕ → ℕ → Type 0

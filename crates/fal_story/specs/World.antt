@@ -13,13 +13,15 @@ use Rattle.fal_base.specs.declared.event.Point.TheVariants.{Here, Carried}
 use Rattle.fal_base.specs.Commits.{Commit}
 use Rattle.fal_base.specs.Transcript.{commits_of}
 use Rattle.fal_client.specs.State.{ClientState, opening_client}
+use Rattle.fal_coord.specs.State.{CoordState, opening_coord}
 use Rattle.fal_node.specs.State.{NodeState, opening_node}
 use Rattle.fal_story.specs.Clusters.{calls_of_lane}
 
--- clients by lane from 1, nodes from 0; how many events there were; the envelopes, entries and commits of them, in order
+-- clients by lane from 1, nodes from 0, and the coordinator; how many events there were; the envelopes, entries and commits of them, in order
 pub record World : Type 0 where
   pub clients : ℕ → ClientState
   pub nodes : ℕ → NodeState
+  pub coord : CoordState
   pub events : ℕ
   pub envelopes : List Envelope
   pub entries : List Entry
@@ -67,6 +69,7 @@ abbrev pub opening_world : Config → World
 opening_world config = record {
   clients = λ lane. opening_client lane config.nodes (calls_of_lane config lane);
   nodes = λ node. opening_node node config.nodes config.batch;
+  coord = opening_coord config.nodes;
   events = 0;
   envelopes = [];
   entries = [];

@@ -1,8 +1,9 @@
 ghost use Rattle.std.specs.Prelude.{◌≡◌, ◌∷◌, ◌++◌, [], ◌<◌, ◌^◌, OnOk, OnErr, IfOk, length};
+ghost use Rattle.fal_story.specs.Actors.{actor_of as actor_told};
 ghost use Rattle.fal_story.specs.Clusters.{IsCluster};
 ghost use Rattle.fal_story.specs.Rooms.{HasRoom};
 ghost use Rattle.fal_story.specs.Run.{Follows, IsLegal, commits_at, envelopes_at, run, transcript};
-ghost use Rattle.fal_story.specs.Told.{Told, actor_of as actor_told};
+ghost use Rattle.fal_story.specs.Told.{Told};
 
 use crate::post::{add_entries, add_envelopes, commits_in};
 use crate::told::Run;
@@ -118,7 +119,14 @@ impl Book {
         self.commits
     }
 
-    /// What the run records, or want of memory.
+    /// What the run records, in its order. Takes no memory.
+    pub fn entries(&self) -> &[Entry]
+        ensures { result.now ≡ transcript self.now.told.config self.now.told.events }
+    {
+        self.entries.as_slice()
+    }
+
+    /// A copy of what the run records, or want of memory.
     pub fn transcript(&self) -> Result<Vec<Entry>, OutOfMemory>
         ensures { IfOk result (λ entries. entries.items ≡ transcript self.now.told.config self.now.told.events) }
     {

@@ -7,8 +7,9 @@ use fal_base::{Config, Event, OutOfMemory, Outputs};
 use fal_book::Chronicle;
 
 impl Chronicle for Book {
+    ghost use Rattle.fal_story.specs.Actors.{actor_number};
     ghost use Rattle.fal_story.specs.Arriving.{Arrives};
-    ghost use Rattle.fal_story.specs.Pushing.{MayPush, actor_number};
+    ghost use Rattle.fal_story.specs.Pushing.{MayPush};
     ghost use Rattle.fal_story.specs.Rooms.{HasRoom};
     ghost use Rattle.fal_story.specs.Lasting.{lasts};
 
@@ -36,7 +37,7 @@ impl Chronicle for Book {
 
     ghost roomy = { λ book outputs room. room.few };
 
-    #[tactic(auto, unfolding(crate::specs::Pushing::actor_number))]
+    #[tactic(auto, unfolding(crate::specs::Actors::actor_number))]
     fn actor(event: &Event) -> u8 {
         number_of(actor_of(*event))
     }
@@ -45,19 +46,19 @@ impl Chronicle for Book {
         self.make_room(outputs)
     }
 
-    #[tactic(auto, using(crate::proofs::Pushed::legal_sound))]
+    #[tactic(auto, using(crate::proofs::Histories::Pushed::legal_sound))]
     fn len(&self) -> u64 {
         self.legal();
         self.events().len() as u64
     }
 
-    #[tactic(auto, using(crate::proofs::Pushed::pushed_follows))]
+    #[tactic(auto, using(crate::proofs::Histories::Pushed::pushed_follows))]
     fn push(&mut self, event: Event, outputs: Outputs) {
         self.legal();
         self.put(event, outputs);
     }
 
-    #[tactic(auto, using(crate::proofs::Orders::legal_in_order, crate::proofs::Pushed::legal_sent))]
+    #[tactic(auto, using(crate::proofs::Histories::Orders::legal_in_order, crate::proofs::Histories::Pushed::legal_sent))]
     fn inbox(&self, actor: u8, from: u64, into: &mut Inbox) -> Result<(), OutOfMemory> {
         self.legal();
         into.hear(actor, from, self.sent())

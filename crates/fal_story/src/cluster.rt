@@ -1,9 +1,11 @@
 ghost use Rattle.std.specs.Prelude.{◌≡◌, ◌≤◌, ◌↔◌, IsTrue, None, length, nat_le, sum_by};
 ghost use Rattle.std.specs.List.{All, list_all};
 ghost use Rattle.fal_base.specs.Paths.{is_dot as is_dot_name};
-ghost use Rattle.fal_client.specs.Paths.{bad_path, fault_of};
+ghost use Rattle.fal_base.specs.OpPaths.{bad_path, fault_of};
 ghost use Rattle.fal_story.specs.Clusters.{IsCall, IsCluster, is_served};
-ghost use Rattle.fal_wire.specs.Names.{is_name as is_name_of, path_arg_field, path_bytes, path_field};
+ghost use Rattle.fal_base.specs.Names.{is_name as is_name_of};
+ghost use Rattle.fal_base.specs.Paths.{path_bytes};
+ghost use Rattle.fal_wire.specs.Names.{path_arg_field, path_field};
 ghost use Rattle.fal_wire.specs.Ops.{op_field};
 
 use fal_base::{Call, CallList, Config, Cred, Name, Op, PathArg};
@@ -18,7 +20,7 @@ fn is_dot(bytes: &[u8]) -> bool
 }
 
 // Whether the bytes are a name, by the rules of `Name::read`.
-#[tactic(auto, unfolding(fal_wire::specs::Names::is_name))]
+#[tactic(auto, unfolding(fal_base::specs::Names::is_name))]
 fn is_name(bytes: &[u8]) -> bool
     ensures { result ≡ is_name_of bytes.now }
 {

@@ -1,7 +1,7 @@
 //! What an actor is told of the envelopes that were sent to it.
 ghost use Rattle.std.specs.Prelude.{◌≡◌, ℕ, ◌+◌, ◌<◌, ◌≤◌, ◌^◌, [], ◌++◌, length, drop, OnOk, OnErr, IfOk};
+ghost use Rattle.fal_story.specs.Actors.{number_of as number_told};
 ghost use Rattle.fal_story.specs.Arriving.{arrived, arrived_next, arrives, AreInOrder};
-ghost use Rattle.fal_story.specs.Pushing.{number_of as number_told};
 
 use fal_base::{Actor, Duplicate, Envelope, OutOfMemory};
 use std::alloc::Global;
@@ -75,7 +75,7 @@ fn place_from(sent: &[Envelope], from: u64) -> usize
 
 // Those of the envelopes that are to this actor and were sent by this event or a later one, with their numbers. The first of them all has the
 // number `next`.
-#[tactic(auto, using(crate::proofs::Arrivals::arrived_yes, crate::proofs::Arrivals::arrived_no))]
+#[tactic(auto, using(crate::proofs::Histories::Arrivals::arrived_yes, crate::proofs::Histories::Arrivals::arrived_no))]
 fn arrivals(
     alloc: Global,
     actor: u8,

@@ -3,8 +3,9 @@ ghost use Rattle.fal_base.specs.declared.call.Config.{Config};
 ghost use Rattle.fal_base.specs.declared.event.Event.{Event};
 ghost use Rattle.fal_base.specs.declared.event.Outputs.{Outputs};
 ghost use Rattle.fal_book.specs.Entries.{IsSound, entries_of};
+ghost use Rattle.fal_story.specs.Actors.{actor_number};
 ghost use Rattle.fal_story.specs.Clusters.{IsCluster};
-ghost use Rattle.fal_story.specs.Pushing.{MayPush, actor_number, all_sent, sent_by};
+ghost use Rattle.fal_story.specs.Pushing.{MayPush, all_sent, sent_by};
 ghost use Rattle.fal_story.specs.Run.{Follows, IsLegal, commits_at, envelopes_at, run};
 
 /// What may be pushed after a list of events may be pushed after every longer list in which its actor has no further event.

@@ -12,6 +12,3 @@ mod walk;
 
 pub use fault::ApplyFault;
 pub use plain::PlainTree;
-
-#[cfg(test)]
-mod tests;

@@ -74,8 +74,8 @@ impl PlainTree {
         Ok(PlainTree { alloc, rows })
     }
 
-    /// The reply to a call, which is no change of placement: a bad path first, then EBUSY on the root, then the walk, then the checks in
-    /// their order (POSIX.1-2017, XSH, in this service's profile).
+    /// The reply to a call, which is no change of placement: a bad path first, then EBUSY on the root, then the walk, then the checks. Each
+    /// errno is one that POSIX.1-2017, XSH, gives for its cause; that this cause is looked at first is this service's order.
     pub fn answer(&self, cred: &Cred, op: &Op) -> Result<Reply, OutOfMemory>
         requires { IsOfTree op.now }
         ensures { IfOk result (λ reply. reply ≡ answer_of self.now cred.now op.now) }

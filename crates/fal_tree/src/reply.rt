@@ -1,55 +1,14 @@
-ghost use Rattle.std.specs.Prelude.{◌≡◌, IfOk, Option};
-ghost use Rattle.fal_base.specs.Answer.{answer as answer_of, errno_of as errno_of_fault};
-ghost use Rattle.fal_tree.specs.Refused.{IsOfTree, path_errno as path_errno_of, bad_path_errno as bad_path_errno_of};
+ghost use Rattle.std.specs.Prelude.{◌≡◌, IfOk, None};
+ghost use Rattle.fal_base.specs.Answer.{answer as answer_of};
+ghost use Rattle.fal_base.specs.OpPaths.{bad_path};
+ghost use Rattle.fal_tree.specs.Refused.{IsOfTree};
 
 use crate::answers;
-use fal_base::{Cred, Errno, Inode, KeyMap, Op, OutOfMemory, PathArg, PathFault, Reply};
+use fal_base::{Cred, Inode, KeyMap, Op, OutOfMemory, PathArg, Reply};
 use std::alloc::Global;
 
-fn errno_of(fault: PathFault) -> Errno
-    ensures { result ≡ errno_of_fault fault }
-{
-    match fault {
-        PathFault::TooLong | PathFault::NameTooLong => Errno::Enametoolong,
-        PathFault::Relative | PathFault::Dot | PathFault::ZeroByte | PathFault::OutOfMemory => {
-            Errno::Einval
-        }
-    }
-}
-
-fn path_errno(path: &PathArg) -> Option<Errno>
-    ensures { result ≡ path_errno_of path.now }
-{
-    match path {
-        PathArg::Good(_) => None,
-        PathArg::Bad { fault, .. } => Some(errno_of(*fault)),
-    }
-}
-
-// The errno of a call's first bad path.
-fn bad_path_errno(op: &Op) -> Option<Errno>
-    ensures { result ≡ bad_path_errno_of op.now }
-{
-    match op {
-        Op::Mkdir { path, .. } => path_errno(path),
-        Op::Create { path, .. } => path_errno(path),
-        Op::Stat { path } => path_errno(path),
-        Op::Access { path, .. } => path_errno(path),
-        Op::Chmod { path, .. } => path_errno(path),
-        Op::Chown { path, .. } => path_errno(path),
-        Op::Truncate { path, .. } => path_errno(path),
-        Op::Unlink { path } => path_errno(path),
-        Op::Rmdir { path } => path_errno(path),
-        Op::Rename { old, new } => match path_errno(old) {
-            Some(errno) => Some(errno),
-            None => path_errno(new),
-        },
-        Op::List { path } => path_errno(path),
-        Op::Place { .. } => None,
-    }
-}
-
 // The reply to a call whose paths are good.
+#[tactic(auto, unfolding(fal_base::specs::OpPaths::bad_path))]
 fn good_reply(
     alloc: Global,
     rows: &KeyMap<Inode>,
@@ -57,7 +16,7 @@ fn good_reply(
     op: &Op,
 ) -> Result<Reply, OutOfMemory>
     requires of_tree { IsOfTree op.now }
-    requires good { bad_path_errno_of op.now ≡ None }
+    requires good { bad_path op.now ≡ None }
     ensures { IfOk result (λ reply. reply ≡ answer_of rows.now.entries cred.now op.now) }
 {
     match op {
@@ -107,6 +66,7 @@ fn good_reply(
 }
 
 /// The reply to a call. A bad path is answered before anything else.
+#[tactic(auto, unfolding(fal_base::specs::OpPaths::bad_path))]
 pub fn reply_to(
     alloc: Global,
     rows: &KeyMap<Inode>,
@@ -116,8 +76,8 @@ pub fn reply_to(
     requires { IsOfTree op.now }
     ensures { IfOk result (λ reply. reply ≡ answer_of rows.now.entries cred.now op.now) }
 {
-    match bad_path_errno(op) {
-        Some(errno) => Ok(Reply::Fail(errno)),
+    match op.bad_path() {
+        Some(fault) => Ok(Reply::Fail(fault.errno())),
         None => good_reply(alloc, rows, cred, op),
     }
 }

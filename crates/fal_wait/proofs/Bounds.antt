@@ -3,15 +3,15 @@ use Rattle.std.proofs.Common.{◌≡◌, ℕ, ◌+◌, ◌≤◌, Bool, true, fa
 use Rattle.fal_base.specs.declared.call.CallRec.{CallRec}
 use Rattle.fal_base.specs.declared.key.Key.{Key}
 use Rattle.fal_wait.specs.Lists.{has_number, IsPartOf}
-use Rattle.fal_wait.specs.Waiting.{WaitList, with_call, after_admit, is_taken, after_open, without_fetch, after_settle, settled_by, fetch_of}
+use Rattle.fal_wait.specs.Waiting.{WaitList, with_call, after_admit, is_new, after_open, without_fetch, after_settle, settled_by, fetch_of}
 
 pub tickets-after_admit : (list : WaitList) (call : CallRec) → (after_admit list call).tickets ≤ list.tickets + 1
 unfolding with_call
-tickets-after_admit list call = elim (is_taken list call) as (λ b. (cond b (with_call list call) list).tickets ≤ list.tickets + 1) [ true ↦ omega arith | false ↦ omega arith ]
+tickets-after_admit list call = elim (is_new list call) as (λ b. (cond b (with_call list call) list).tickets ≤ list.tickets + 1) [ true ↦ omega arith | false ↦ omega arith ]
 
 pub opened-after_admit : (list : WaitList) (call : CallRec) → (after_admit list call).opened ≡ list.opened
 unfolding with_call
-opened-after_admit list call = elim (is_taken list call) as (λ b. (cond b (with_call list call) list).opened ≡ list.opened) [ true ↦ refl | false ↦ refl ]
+opened-after_admit list call = elim (is_new list call) as (λ b. (cond b (with_call list call) list).opened ≡ list.opened) [ true ↦ refl | false ↦ refl ]
 
 pub tickets-after_open : (list : WaitList) (key : Key) (waiters : List ℕ) → (after_open list key waiters).tickets ≡ list.tickets
 unfolding after_open

@@ -1,4 +1,5 @@
 pub mod Bounds
 pub mod Firsts
-mod Places
 mod Steps
+pub mod Ascending
+pub mod Numbered

@@ -1,3 +1,3 @@
+pub mod Doings
 pub mod Lists
-pub mod Marks
 pub mod Waiting

@@ -1,5 +1,5 @@
 -- The calls that wait at a node, and the fetches that they wait on.
-use Rattle.std.specs.Prelude.{ℕ, ◌+◌, Bool, false, List, [], ◌∷◌, ◌++◌, map, filter, Option, None, Some, is_none, if◌then◌else◌, ◌==◌}
+use Rattle.std.specs.Prelude.{ℕ, ◌+◌, Bool, false, List, [], ◌∷◌, ◌++◌, map, filter, Option, None, Some, is_none, IsTrue, if◌then◌else◌, ◌==◌}
 use Rattle.std.specs.List.{find}
 use Rattle.std.specs.Option.{option_map}
 use Rattle.fal_base.specs.declared.key.Key.{Key}
@@ -9,8 +9,8 @@ use Rattle.fal_wait.specs.declared.pending_fetch.PendingFetch.{PendingFetch}
 use Rattle.fal_wait.specs.declared.pending_fetch.Fetch.{Fetch}
 use Rattle.fal_wait.specs.declared.admit.Admit.{Admit}
 use Rattle.fal_wait.specs.declared.admit.Admit.TheVariants as admit
-use Rattle.fal_wait.specs.Lists.{without_first, has_number}
-use Rattle.fal_wait.specs.Marks.{Marks, mark_of, last_mark, with_mark, is_newer}
+use Rattle.fal_wait.specs.Lists.{are_ascending, without_first, has_number}
+use Rattle.fal_base.specs.Marks.{Marks, mark_of, last_mark, with_mark, is_newer}
 
 -- the waiting calls in the order of their arrival, the pending fetches in the order of their opening, the last mark taken of each client, and how many tickets were given and fetches opened so far
 pub record WaitList : Type 0 where
@@ -19,6 +19,15 @@ pub record WaitList : Type 0 where
   pub last : Marks
   pub tickets : ℕ
   pub opened : ℕ
+
+-- whether each ticket is below those after it, and below this number
+abbrev pub are_rising : List WaitingCall → ℕ → Bool
+are_rising calls end = are_ascending (λ (w : WaitingCall). w.ticket) calls end
+
+-- what holds of each list: the tickets rise, and so do the numbers of the pending fetches; the next ticket and the next fetch's number are new
+pub record IsNumbered (list : WaitList) : Type 0 where
+  pub tickets : IsTrue (are_rising list.calls list.tickets)
+  pub fetches : IsTrue (are_ascending (λ (f : PendingFetch). f.number) list.fetches list.opened)
 
 -- what contracts see of `Waiting`: the list, and for how many more calls or fetches there is room
 pub record WaitingSeen : Type 0 where
@@ -53,8 +62,8 @@ abbrev pub told_by : Fetch → Key × List ℕ
 told_by f = (f.key, f.waiters.items)
 
 -- whether the call is newer than the last that was taken of its client
-abbrev pub is_taken : WaitList → CallRec → Bool
-is_taken list call = is_newer (mark_of call.id) (last_mark list.last call.id.client)
+abbrev pub is_new : WaitList → CallRec → Bool
+is_new list call = is_newer (mark_of call.id) (last_mark list.last call.id.client)
 
 -- the call waits, with the next ticket, and is the last taken of its client
 unfoldable pub with_call : WaitList → CallRec → WaitList
@@ -67,10 +76,10 @@ with_call list call =
 
 -- a call that is not newer changes nothing
 abbrev pub after_admit : WaitList → CallRec → WaitList
-after_admit list call = if is_taken list call then with_call list call else list
+after_admit list call = if is_new list call then with_call list call else list
 
 abbrev pub admit_answer : WaitList → CallRec → Admit
-admit_answer list call = if is_taken list call then admit.Taken list.tickets else admit.Old
+admit_answer list call = if is_new list call then admit.Taken list.tickets else admit.Old
 
 -- the call with this ticket has left. A fetch keeps the waiters that it was opened with
 abbrev pub without_call : WaitList → ℕ → WaitList

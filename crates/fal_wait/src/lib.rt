@@ -2,14 +2,13 @@
 #![tactic(auto)]
 
 mod admit;
-mod mark;
-mod marks;
+mod law;
 mod pending_fetch;
 mod waiting;
 mod waiting_call;
 
 pub use admit::Admit;
-pub use mark::Mark;
+pub use law::fetches_settle_as_opened;
 pub use pending_fetch::{Fetch, PendingFetch};
 pub use waiting::Waiting;
 pub use waiting_call::WaitingCall;

@@ -1,16 +1,14 @@
 ghost use Rattle.std.specs.Prelude.{◌≡◌, ◌≤◌, ◌<◌, ◌+◌, ◌-◌, ◌^◌, ◌==◌, IfOk, OnOk, length, slice_get};
 ghost use Rattle.std.specs.Option.{option_copied, option_map};
 ghost use Rattle.fal_wait.specs.Lists.{IsPartOf};
-ghost use Rattle.fal_wait.specs.Waiting.{no_calls, count_to, free_tickets, call_of, fetch_of, parts_of, told_by, is_taken, after_admit, admit_answer, without_call, after_open, after_settle, after_cancel};
+ghost use Rattle.fal_wait.specs.Waiting.{no_calls, IsNumbered, count_to, free_tickets, call_of, fetch_of, parts_of, told_by, is_new, after_admit, admit_answer, without_call, after_open, after_settle, after_cancel};
 
 use crate::admit::Admit;
-use crate::mark::{Mark, id_mark};
-use crate::marks::{is_newer, last_mark, put_mark};
 use crate::pending_fetch::{Fetch, PendingFetch, take_fetch};
 use crate::waiting_call::{
-    WaitingCall, bind_waiters, count_free, free_all, free_waiters, take_call,
+    WaitingCall, count_free, stop_all_waiting, stop_waiting, take_call, wait_on,
 };
-use fal_base::{CallRec, Items, Key, OutOfMemory};
+use fal_base::{CallRec, Items, Key, Mark, OutOfMemory, last_mark, put_mark};
 use std::alloc::Global;
 use std::marker::Model;
 
@@ -28,7 +26,7 @@ pub struct Waiting {
 
 impl Model for Waiting {
     ghost use Rattle.std.specs.Prelude.{◌-◌, min, vec_len, vec_capacity};
-    ghost use Rattle.fal_wait.specs.Waiting.{WaitingSeen, count_to};
+    ghost use Rattle.fal_wait.specs.Waiting.{WaitingSeen, IsNumbered, count_to};
 
     ghost Value = { WaitingSeen };
 
@@ -36,6 +34,19 @@ impl Model for Waiting {
       list = record { calls = a.calls.items; fetches = a.fetches.items; last = a.last.items; tickets = a.tickets; opened = count_to a.last_fetch };
       spare = min (vec_capacity a.calls - vec_len a.calls) (min (vec_capacity a.fetches - vec_len a.fetches) (vec_capacity a.last - vec_len a.last));
     } };
+
+    ghost invariant = { λ a. IsNumbered (record { calls = a.calls.items; fetches = a.fetches.items; last = a.last.items; tickets = a.tickets; opened = count_to a.last_fetch }) };
+}
+
+// The number after the last one, from 0.
+fn number_after(last: Option<u64>) -> u64
+    requires { count_to last < 2 ^ 64 }
+    ensures { result ≡ count_to last }
+{
+    match last {
+        None => 0,
+        Some(last) => last + 1,
+    }
 }
 
 impl Waiting {
@@ -65,10 +76,11 @@ impl Waiting {
 
     /// Whether `admit` would take the call.
     pub fn takes(&self, call: &CallRec) -> bool
-        ensures { result ≡ is_taken self.now.list call.now }
+        ensures { result ≡ is_new self.now.list call.now }
     {
-        let mark = id_mark(&call.id);
-        is_newer(&mark, last_mark(&self.last, call.id.client))
+        call.id
+            .mark()
+            .is_newer(last_mark(&self.last, call.id.client))
     }
 
     /// Takes the call, with the next ticket. `Old` exactly where its number, attempt and hop are not above those of the last call that was
@@ -81,8 +93,8 @@ impl Waiting {
         ensures list { self.new.list ≡ after_admit self.old.list call }
         ensures room { self.old.spare ≤ self.new.spare + 1 }
     {
-        let mark = id_mark(&call.id);
-        if !is_newer(&mark, last_mark(&self.last, call.id.client)) {
+        let mark = call.id.mark();
+        if !mark.is_newer(last_mark(&self.last, call.id.client)) {
             return Admit::Old;
         }
         let ticket = self.tickets;
@@ -101,7 +113,8 @@ impl Waiting {
 
     /// The tickets of the calls without a pending fetch, in the order of arrival, or want of memory.
     pub fn free(&self) -> Result<Vec<u64>, OutOfMemory>
-        ensures { IfOk result (λ tickets. tickets.items ≡ free_tickets self.now.list) }
+        ensures numbered { IsNumbered self.now.list }
+        ensures tickets { IfOk result (λ tickets. tickets.items ≡ free_tickets self.now.list) }
     {
         let mut tickets = Vec::with_capacity(*self.calls.allocator(), self.calls.len())?;
         for waiting in &self.calls {
@@ -180,14 +193,12 @@ impl Waiting {
         requires waiters { IsPartOf waiters.items (free_tickets self.old.list) }
         requires numbers { self.old.list.opened < 2 ^ 64 }
         ensures number { result ≡ self.old.list.opened }
+        ensures numbered { IsNumbered self.old.list }
         ensures list { self.new.list ≡ after_open self.old.list key waiters.items }
         ensures room { self.old.spare ≤ self.new.spare + 1 }
     {
-        let number = match self.last_fetch {
-            None => 0,
-            Some(last) => last + 1,
-        };
-        bind_waiters(&mut self.calls, number, &waiters);
+        let number = number_after(self.last_fetch);
+        wait_on(&mut self.calls, number, &waiters);
         let Ok(()) = self.fetches.push(PendingFetch {
             number,
             key,
@@ -211,7 +222,7 @@ impl Waiting {
         match take_fetch(&mut self.fetches, id) {
             None => None,
             Some(fetch) => {
-                free_waiters(&mut self.calls, id);
+                stop_waiting(&mut self.calls, id);
                 let PendingFetch {
                     number: _,
                     key,
@@ -244,7 +255,7 @@ impl Waiting {
         ensures list { self.new.list ≡ after_cancel self.old.list }
         ensures room { self.old.spare ≤ self.new.spare }
     {
-        free_all(&mut self.calls);
+        stop_all_waiting(&mut self.calls);
         self.fetches.clear();
     }
 }

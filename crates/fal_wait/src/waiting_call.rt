@@ -60,7 +60,7 @@ fn unbind(waiting: &mut WaitingCall, number: u64)
 }
 
 // The waiters wait on this fetch.
-pub(crate) fn bind_waiters(calls: &mut [WaitingCall], number: u64, waiters: &[u64])
+fn bind_waiters(calls: &mut [WaitingCall], number: u64, waiters: &[u64])
     ensures { calls.new ≡ map (λ w. on_fetch number waiters.now w) calls.old }
 {
     for waiting in calls.iter_mut() {
@@ -69,7 +69,7 @@ pub(crate) fn bind_waiters(calls: &mut [WaitingCall], number: u64, waiters: &[u6
 }
 
 // The calls that wait on this fetch are free.
-pub(crate) fn free_waiters(calls: &mut [WaitingCall], number: u64)
+fn free_waiters(calls: &mut [WaitingCall], number: u64)
     ensures { calls.new ≡ map (λ w. off_fetch number w) calls.old }
 {
     for waiting in calls.iter_mut() {
@@ -78,12 +78,36 @@ pub(crate) fn free_waiters(calls: &mut [WaitingCall], number: u64)
 }
 
 // Each call is free.
-pub(crate) fn free_all(calls: &mut [WaitingCall])
+fn free_all(calls: &mut [WaitingCall])
     ensures { calls.new ≡ map unbound calls.old }
 {
     for waiting in calls.iter_mut() {
         waiting.fetch = None;
     }
+}
+
+// The calls with these tickets wait on this fetch.
+pub(crate) fn wait_on(calls: &mut Vec<WaitingCall>, number: u64, waiters: &[u64])
+    ensures calls { calls.new.items ≡ map (λ w. on_fetch number waiters.now w) calls.old.items }
+    ensures room { vec_capacity calls.new - vec_len calls.new ≡ vec_capacity calls.old - vec_len calls.old }
+{
+    bind_waiters(calls, number, waiters);
+}
+
+// No call waits on this fetch.
+pub(crate) fn stop_waiting(calls: &mut Vec<WaitingCall>, number: u64)
+    ensures calls { calls.new.items ≡ map (λ w. off_fetch number w) calls.old.items }
+    ensures room { vec_capacity calls.new - vec_len calls.new ≡ vec_capacity calls.old - vec_len calls.old }
+{
+    free_waiters(calls, number);
+}
+
+// No call waits on any fetch.
+pub(crate) fn stop_all_waiting(calls: &mut Vec<WaitingCall>)
+    ensures calls { calls.new.items ≡ map unbound calls.old.items }
+    ensures room { vec_capacity calls.new - vec_len calls.new ≡ vec_capacity calls.old - vec_len calls.old }
+{
+    free_all(calls);
 }
 
 // How many calls have no pending fetch.

@@ -7,7 +7,8 @@ use Rattle.fal_base.specs.declared.path.PathArg.{PathArg}
 use Rattle.fal_base.specs.declared.path.PathArg.TheVariants.{Good, Bad}
 use Rattle.fal_wire.specs.Format.{byte, number, text, ◌⊗◌, ◌▷◌, IsBytes}
 use Rattle.fal_wire.specs.Numbers.{node_field, asker_field, operation_field, version_field, mode_field, want_field, size_field, ino_field, one_or_two, at_most_two, rule_count, version_above, lane_field, ordinal_field, cred_field, id_field}
-use Rattle.fal_wire.specs.Names.{is_name, name_field, is_key_name, key_name_field, key_field, path_names, path_field, good_spelling, IsGood, path_arg_field, comes_after, next_name, names_field}
+use Rattle.fal_base.specs.Names.{is_name}
+use Rattle.fal_wire.specs.Names.{name_field, is_key_name, key_name_field, key_field, path_names, path_field, good_spelling, IsGood, path_arg_field, comes_after, next_name, names_field}
 use Rattle.fal_wire.proofs.Laws.{Laws, Took, Takes, bind_ok, ok_is, judged_laws, next_laws, both_laws, shaped_laws, byte_laws}
 use Rattle.fal_wire.proofs.NumberLaws.{number_laws, text_laws}
 use Rattle.fal_wire.proofs.ListLaws.{counted_laws, made_again}

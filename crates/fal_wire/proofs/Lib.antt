@@ -5,4 +5,6 @@ pub mod FieldLaws
 pub mod RowLaws
 pub mod MessageLaws
 pub mod ReadingLaws
+pub mod LetterLaws
 pub mod Loop
+mod ReadNames

@@ -1,5 +1,6 @@
 pub mod Format
 pub mod Gives
+pub mod Letters
 pub mod Messages
 pub mod Names
 pub mod Numbers

@@ -1,16 +1,13 @@
 -- Names, keys and paths.
-use Rattle.std.specs.Prelude.{ℕ, ◌+◌, Bool, not, ◌&&◌, true, List, [], length, sum_by, Option, Some, None, is_ok, nat_le, ◌==◌, if◌then◌else◌}
+use Rattle.std.specs.Prelude.{ℕ, Bool, not, ◌&&◌, true, List, [], length, Option, Some, None, nat_le, ◌==◌, if◌then◌else◌}
 use Rattle.std.specs.Ordering.{nat_cmp, is_lt}
 use Rattle.std.specs.Cmp.Lexicographic.{slice_cmp}
-use Rattle.fal_base.specs.Names.{name_of}
+use Rattle.fal_base.specs.Names.{is_name}
+use Rattle.fal_base.specs.Paths.{path_bytes}
 use Rattle.fal_base.specs.declared.key.Key.{Key}
 use Rattle.fal_base.specs.declared.path.PathArg.{PathArg}
 use Rattle.fal_base.specs.declared.path.PathArg.TheVariants.{Good, Bad}
 use Rattle.fal_wire.specs.Format.{Format, number, text, judged, ◌▷◌, shaped, made, counted}
-
--- whether the bytes are a name, by the rules for names
-unfoldable pub is_name : List ℕ → Bool
-is_name bytes = is_ok (name_of bytes)
 
 unfoldable pub name_field : Format (List ℕ)
 name_field = judged text is_name
@@ -25,10 +22,6 @@ key_name_field parent = judged text (is_key_name parent)
 -- the parent's number, and the name
 unfoldable pub key_field : Format Key
 key_field = shaped (λ k. (k.parent, k.name)) (λ f. record { parent = f.0; name = f.1 }) (number 8 ▷ key_name_field)
-
--- the bytes of the path's names, each with the slash before it
-abbrev pub path_bytes : List (List ℕ) → ℕ
-path_bytes names = sum_by (λ name. length name + 1) names
 
 -- so many names
 unfoldable pub path_names : Format (List (List ℕ))

@@ -1,10 +1,12 @@
 //! The records that actors send each other, as messages and as bytes.
 #![tactic(auto)]
 
+mod answer;
 mod decoding;
 mod encoding;
 mod fault;
 mod law;
+mod letter;
 mod list;
 mod message;
 mod name;
@@ -19,6 +21,7 @@ pub use encoding::encode;
 use fal_base::{Items, Key, NamedRow, RuleChange, Update};
 pub use fault::WireFault;
 pub use law::spelling_laws;
+pub use letter::{Letter, spelled};
 pub use message::{Found, Message};
 
 /// Keys, as a lock names them.

@@ -5,7 +5,8 @@ ghost use Rattle.std.specs.List.{flat_map};
 ghost use Rattle.std.specs.Option.{option_copied};
 ghost use Rattle.fal_wire.specs.Format.{text_at, many_at};
 ghost use Rattle.fal_wire.specs.Gives.{Gives};
-ghost use Rattle.fal_wire.specs.Names.{name_field, key_name_field, key_field, path_bytes, path_names, path_field, path_arg_field, comes_after, next_name, names_field};
+ghost use Rattle.fal_base.specs.Paths.{path_bytes};
+ghost use Rattle.fal_wire.specs.Names.{name_field, key_name_field, key_field, path_names, path_field, path_arg_field, comes_after, next_name, names_field};
 
 use crate::fault::Stop;
 use crate::number::{
@@ -31,7 +32,7 @@ fn read_text(end: usize, bytes: &[u8]) -> Result<(&[u8], &[u8]), Stop>
     }
 }
 
-#[tactic(auto, unfolding(crate::specs::Names::name_field, crate::specs::Names::is_name))]
+#[tactic(auto, unfolding(crate::specs::Names::name_field, fal_base::specs::Names::is_name))]
 pub fn read_name(alloc: Global, end: usize, bytes: &[u8]) -> Result<(Name, &[u8]), Stop>
     ensures { Gives (λ x. (x.0, x.1.now)) result (name_field.read end bytes.now) }
 {
@@ -116,7 +117,7 @@ fn is_short_path(names: &[Name]) -> bool
     true
 }
 
-#[tactic(auto, unfolding(crate::specs::Names::path_arg_field, crate::specs::Names::path_field))]
+#[tactic(auto, using(crate::proofs::ReadNames::read_are_names), unfolding(crate::specs::Names::path_arg_field, crate::specs::Names::path_field))]
 pub fn read_path(alloc: Global, end: usize, bytes: &[u8]) -> Result<(PathArg, &[u8]), Stop>
     ensures { Gives (λ x. (x.0, x.1.now)) result (path_arg_field.read end bytes.now) }
 {

@@ -5,6 +5,7 @@ ghost use Rattle.fal_wire.specs.Format.{made};
 ghost use Rattle.fal_wire.specs.Gives.{Gives};
 ghost use Rattle.fal_wire.specs.Messages.{block_body, blocked_body, commit_body, count_body, counted_body, done_body, fetch_ask_body, fetch_got_body, install_body, list_ask_body, list_part_body, lock_body, locked_body, opened_body, reply_body, stale_body, body_at, is_kind};
 
+use crate::answer::read_reply;
 use crate::fault::Stop;
 use crate::list::{read_changes, read_keys, read_rows, read_updates};
 use crate::message::Message;
@@ -14,7 +15,7 @@ use crate::number::{
     read_version_above,
 };
 use crate::op::read_call;
-use crate::row::{read_found, read_reply, read_rule};
+use crate::row::{read_found, read_rule};
 use std::alloc::Global;
 
 #[tactic(auto, unfolding(crate::specs::Messages::reply_body))]

@@ -3,12 +3,13 @@
 ghost use Rattle.std.specs.Prelude.{◌≡◌, ◌++◌, OnOk};
 ghost use Rattle.fal_wire.specs.Messages.{block_body, blocked_body, commit_body, count_body, counted_body, done_body, fetch_ask_body, fetch_got_body, install_body, list_ask_body, list_part_body, lock_body, locked_body, opened_body, reply_body, stale_body, body_spelling, kind_of, FieldsFit};
 
+use crate::answer::put_reply;
 use crate::list::{put_changes, put_keys, put_rows, put_updates};
 use crate::message::{Found, Message};
 use crate::name::{put_key, put_name, put_names};
 use crate::number::{put_id, put_u8, put_u32, put_u64};
 use crate::op::put_call;
-use crate::row::{put_found, put_reply, put_rule};
+use crate::row::{put_found, put_rule};
 use crate::{ChangeList, KeyList, NamedRowList, UpdateList};
 use fal_base::{CallId, Key, Name, NameList, OutOfMemory, Reply, Rule};
 

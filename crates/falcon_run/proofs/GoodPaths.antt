@@ -7,8 +7,9 @@ use Rattle.std.proofs.lemmas.List.Sums.{sum_by-cons}
 use Rattle.fal_base.specs.declared.name.NameFault.TheVariants as name
 use Rattle.fal_base.specs.declared.path.PathFault.TheVariants.{Relative, TooLong, NameTooLong, Dot, ZeroByte}
 use Rattle.fal_base.specs.Paths.{breaks, components, is_dot, path_of}
-use Rattle.fal_story.proofs.Each.{Each}
-use Rattle.fal_wire.specs.Names.{is_name, path_bytes}
+use Rattle.fal_story.proofs.Lists.Each.{Each}
+use Rattle.fal_base.specs.Names.{is_name}
+use Rattle.fal_base.specs.Paths.{path_bytes}
 
 -- ---- tests of lists
 

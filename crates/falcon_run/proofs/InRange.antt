@@ -13,10 +13,10 @@ use Rattle.fal_base.specs.declared.path.PathFault.{PathFault}
 use Rattle.fal_base.specs.PathArgs.{arg_of}
 use Rattle.fal_base.specs.Paths.{path_of}
 use Rattle.fal_script.specs.Configs.{lane_calls}
-use Rattle.fal_script.specs.Ranges.{IsInRange, IsSpelled, IsSpelledCall, IsSpelledOp}
+use Rattle.fal_script.specs.Ranges.{IsSpelledScript, IsSpelled, IsSpelledCall, IsSpelledOp}
 use Rattle.fal_script.specs.declared.script.Script.{Script}
 use Rattle.fal_script.specs.declared.script.ScriptCall.{ScriptCall}
-use Rattle.fal_story.proofs.Fitting.{CanServe, IsHeld, access_is, create_is, good_held, mkdir_is, path_fits, stat_is, truncate_is, unlink_is}
+use Rattle.fal_story.proofs.Ranges.Fitting.{CanServe, IsHeld, access_is, create_is, good_held, mkdir_is, path_fits, stat_is, truncate_is, unlink_is}
 use Rattle.fal_story.specs.Clusters.{IsCall, IsCluster}
 use Rattle.fal_wire.specs.Numbers.{cred_field}
 use Rattle.falcon_run.specs.Headline.{cluster_of}
@@ -73,7 +73,7 @@ lanes_are_calls lines from (suc n) each =
     All-cons (λ (calls : List Call). All IsCall calls) (lane_calls lines from) (map (λ lane. lane_calls lines lane) (range_with_len (from + 1) n)) (lane_is_calls lines from each) (lanes_are_calls lines (from + 1) n each)
 
 -- the cluster of a script in range with at most 10,000 lines may run
-pub script_may_run : (script : Script) → IsInRange script → length script.lines ≤ 10000 → IsCluster (cluster_of script)
+pub script_may_run : (script : Script) → IsSpelledScript script → length script.lines ≤ 10000 → IsCluster (cluster_of script)
 script_may_run script range few =
     let count = length-map-range_with_len (λ lane. lane_calls script.lines lane) 1 script.lanes in
     let calls = few_calls script.lines 1 script.lanes in

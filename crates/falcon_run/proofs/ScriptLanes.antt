@@ -8,7 +8,7 @@ use Rattle.std.proofs.lemmas.Option.{slice_get_past}
 use Rattle.std.proofs.lemmas.List.FromFn.{length-map-range_with_len}
 use Rattle.fal_base.specs.declared.call.Call.{Call}
 use Rattle.fal_script.specs.Configs.{lane_calls}
-use Rattle.fal_script.specs.Ranges.{IsInRange}
+use Rattle.fal_script.specs.Ranges.{IsSpelledScript}
 use Rattle.fal_script.specs.declared.script.Script.{Script}
 use Rattle.fal_script.specs.declared.script.ScriptCall.{ScriptCall}
 use Rattle.fal_story.specs.Clusters.{calls_of_lane}
@@ -43,7 +43,7 @@ none_on : (lines : List ScriptCall) (lane : ℕ) → ((k : ℕ) (line : ScriptCa
 none_on [] lane away = refl
 none_on (line ∷ lines) lane away = ap (λ b. cond b 1 0 + counts lane (order_of lines)) (away 0 line refl) ∙ (let rest = none_on lines lane (λ k l at. away (suc k) l at) in omega arith)
 
-on_lane : (script : Script) → IsInRange script → (k : ℕ) → counts (suc k) (order_of script.lines) ≡ length (calls_of_lane (cluster_of script) (suc k))
+on_lane : (script : Script) → IsSpelledScript script → (k : ℕ) → counts (suc k) (order_of script.lines) ≡ length (calls_of_lane (cluster_of script) (suc k))
 on_lane script range k =
     elim (nat_lt k script.lanes) as (λ b. nat_lt k script.lanes ≡ b → counts (suc k) (order_of script.lines) ≡ length (calls_of_lane (cluster_of script) (suc k))) [
       | true ↦ λ is.
@@ -63,7 +63,7 @@ on_lane script range k =
     less a b le = grind (arith, nat_tests)
 
 -- each lane of a script's cluster has as many calls as it stands among the lanes of the script's lines
-pub has_calls : (script : Script) → IsInRange script → HasCallsFor (cluster_of script) (order_of script.lines)
+pub has_calls : (script : Script) → IsSpelledScript script → HasCallsFor (cluster_of script) (order_of script.lines)
 has_calls script range zero = none_on script.lines 0 (λ j line at. let low = (range.lines j line at).from_one in above line.lane low)
   where
     above : (a : ℕ) → 1 ≤ a → (a == 0) ≡ false

@@ -6,32 +6,34 @@ use Rattle.std.proofs.lemmas.Bool.Decides.{nat_tests}
 use Rattle.std.proofs.lemmas.Option.{same_Some}
 use Rattle.fal_base.specs.declared.call.Call.{Call}
 use Rattle.fal_base.specs.declared.call.Config.{Config}
-use Rattle.fal_base.specs.declared.event.Actor.TheVariants.{Client, Node}
+use Rattle.fal_base.specs.declared.event.Actor.TheVariants.{Client, Node, Coord}
 use Rattle.fal_base.specs.declared.event.Envelope.{Envelope}
 use Rattle.fal_base.specs.declared.event.Event.{Event}
 use Rattle.fal_base.specs.declared.event.Event.TheVariants as event
 use Rattle.fal_base.specs.Transcript.{call_of, lane_call, numbered, sents}
 use Rattle.fal_client.specs.declared.current.Current.{Current}
 use Rattle.fal_client.specs.declared.event.ClientEvent.TheVariants as client
-use Rattle.fal_client.specs.State.{ClientState, ClientMove}
-use Rattle.fal_client.specs.Step.{begun, skipped, answered, client_move, sent_next, started}
-use Rattle.fal_client.specs.Paths.{bad_path}
-use Rattle.fal_node.specs.declared.event.NodeEvent.{NodeEvent}
+use Rattle.fal_client.specs.State.{ClientState, Work as ClientWork}
+use Rattle.fal_client.specs.Step.{begun, skipped, answered, client_step, sent_next, started}
+use Rattle.fal_base.specs.OpPaths.{bad_path}
+use Rattle.fal_node.specs.declared.event.OwnEvent.{OwnEvent}
+use Rattle.fal_node.specs.declared.event.OwnEvent.TheVariants as own
 use Rattle.fal_node.specs.declared.event.NodeEvent.TheVariants as node
 use Rattle.fal_node.specs.Due.{dues}
 use Rattle.fal_node.specs.Letters.{Work}
 use Rattle.fal_node.specs.Step.{node_step}
-use Rattle.fal_story.proofs.Each.{Each, each_join}
-use Rattle.fal_story.proofs.EnabledClient as enabled
-use Rattle.fal_story.proofs.LegalRuns.{IsKept, step_kept, step_counts, legal_kept}
-use Rattle.fal_story.proofs.Lists.{put_all, slice_get_below, tells, unequal}
-use Rattle.fal_story.proofs.MovingRuns.{after_client, after_node}
-use Rattle.fal_story.proofs.Opening.{opening_ghost, opening_shows, opening_ranged}
+use Rattle.fal_story.proofs.Lists.Each.{Each, each_join}
+use Rattle.fal_story.proofs.Events.EnabledClient as enabled
+use Rattle.fal_story.proofs.Events.LegalRuns.{IsKept, step_kept, step_counts, legal_kept}
+use Rattle.fal_story.proofs.Lists.Grown.{put_all, slice_get_below, tells, unequal}
+use Rattle.fal_story.proofs.Drain.MovingRuns.{after_client, after_node}
+use Rattle.fal_story.proofs.Histories.Deeds.{no_hear}
+use Rattle.fal_story.proofs.Events.Opening.{opening_ghost, opening_shows, opening_ranged}
 use Rattle.fal_story.specs.Clusters.{IsCluster, calls_of_lane, is_lane, is_node}
-use Rattle.fal_story.specs.Fresh.{due, event_of, fresh_gets, fresh_at_node, fresh_replies, fresh_replies_at, first_reply, came, AreAnswered, IsDrained}
+use Rattle.fal_story.specs.Fresh.{due, event_of, fresh_gets, fresh_at_node, fresh_at_coord, fresh_replies, fresh_replies_at, first_reply, came, AreAnswered, IsDrained}
 use Rattle.fal_story.specs.Run.{IsLegal, client_deed, client_hears, deed, done, entries_at, node_deed, node_hears, only_where, run, run_from, step, transcript}
 use Rattle.fal_story.specs.World.{World, opening_world, posted, put}
-use Rattle.falcon_run.specs.Serial.{sends_by, sends}
+use Rattle.falcon_run.specs.Serial.{calls_sent_by, calls_sent}
 
 -- ---- one event
 
@@ -50,34 +52,34 @@ no_more : (clients : ℕ → ClientState) (m : ℕ) (c : ClientState) (l : ℕ) 
 no_more clients m c l is =
     put_all (λ (j : ℕ) (s : ClientState). s.seq ≡ (clients j).seq + 0) clients m c (is ∙ nothing_more (clients m).seq) (λ j ne. nothing_more (clients j).seq) l
 
-send_is_one : (c : ClientState) (m : ClientMove) → client_move c client.Send ≡ Some m → m.client.seq ≡ c.seq + 1
+send_is_one : (c : ClientState) (m : ClientWork) → client_step c client.Send ≡ Some m → m.client.seq ≡ c.seq + 1
 unfolding begun skipped
-send_is_one c m is = enabled.sends c m (λ (y : ClientMove). y.client.seq ≡ c.seq + 1) (λ call none left good. refl) (λ call fault none left bad. refl) is
+send_is_one c m is = enabled.sends c m (λ (y : ClientWork). y.client.seq ≡ c.seq + 1) (λ call none left good. refl) (λ call fault none left bad. refl) is
 
-get_is_none : (config : Config) (w : World) (l number : ℕ) (x : Envelope) (m : ClientMove) → IsKept config w → slice_get w.envelopes number ≡ Some x → client_move (w.clients l) (client.Get x) ≡ Some m → m.client.seq ≡ (w.clients l).seq
+get_is_none : (config : Config) (w : World) (l number : ℕ) (x : Envelope) (m : ClientWork) → IsKept config w → slice_get w.envelopes number ≡ Some x → client_step (w.clients l) (client.Get x) ≡ Some m → m.client.seq ≡ (w.clients l).seq
 unfolding answered
 get_is_none config w l number x m k at is =
-    enabled.gets config w l number k.ghost x m (λ (y : ClientMove). y.client.seq ≡ (w.clients l).seq) k.shows at (λ unheard. refl) (λ id reply current heard. refl) is
+    enabled.gets config w l number k.ghost x m (λ (y : ClientWork). y.client.seq ≡ (w.clients l).seq) k.shows at (λ unheard. refl) (λ id reply current heard. refl) is
 
 module _ (config : Config) (w u : World) (l : ℕ) (k : IsKept config w) where
-  send_sends : (m : ℕ) → done config (client_deed w m (only_where (is_lane config m) (client_move (w.clients m) client.Send))) ≡ Some u → (u.clients l).seq ≡ (w.clients l).seq + cond (m == l) 1 0
+  send_sends : (m : ℕ) → done config (client_deed w m (only_where (is_lane config m) (client_step (w.clients m) client.Send))) ≡ Some u → (u.clients l).seq ≡ (w.clients l).seq + cond (m == l) 1 0
   unfolding posted
   send_sends m at =
-      after_client config w u m (client_move (w.clients m) client.Send) (λ (v : World). (v.clients l).seq ≡ (w.clients l).seq + cond (m == l) 1 0)
+      after_client config w u m (client_step (w.clients m) client.Send) (λ (v : World). (v.clients l).seq ≡ (w.clients l).seq + cond (m == l) 1 0)
       (λ move there is. one_more w.clients m move.client l (send_is_one (w.clients m) move is)) at
 
   get_sends : (m number : ℕ) (o : Option Envelope) → slice_get w.envelopes number ≡ o → done config (client_deed w m (only_where (is_lane config m) (client_hears (w.clients m) o))) ≡ Some u → (u.clients l).seq ≡ (w.clients l).seq + 0
   unfolding posted
   get_sends m number None at is = after_client config w u m None (λ (v : World). (v.clients l).seq ≡ (w.clients l).seq + 0) (λ move there e. absurd (cc)) is
   get_sends m number (Some x) at is =
-      after_client config w u m (client_move (w.clients m) (client.Get x)) (λ (v : World). (v.clients l).seq ≡ (w.clients l).seq + 0)
+      after_client config w u m (client_step (w.clients m) (client.Get x)) (λ (v : World). (v.clients l).seq ≡ (w.clients l).seq + 0)
       (λ move there e. no_more w.clients m move.client l (get_is_none config w m number x move k at e)) is
 
   node_sends : (n : ℕ) (o : Option Work) → done config (node_deed w n (only_where (is_node config n) o)) ≡ Some u → (u.clients l).seq ≡ (w.clients l).seq + 0
   unfolding posted
   node_sends n o at = after_node config w u n o (λ (v : World). (v.clients l).seq ≡ (w.clients l).seq + 0) (λ work there is. nothing_more (w.clients l).seq) at
 
-  step_sends : (e : Event) → step config w e ≡ Some u → (u.clients l).seq ≡ (w.clients l).seq + sends_by l e
+  step_sends : (e : Event) → step config w e ≡ Some u → (u.clients l).seq ≡ (w.clients l).seq + calls_sent_by l e
   unfolding deed
   step_sends (event.Send m) at = send_sends m at
   step_sends (event.Get m number) at = get_sends m number (slice_get w.envelopes number) refl at
@@ -86,16 +88,16 @@ module _ (config : Config) (w u : World) (l : ℕ) (k : IsKept config w) where
   step_sends (event.Exec n number) at = node_sends n (node_step (w.nodes n) (node.Exec number)) at
   step_sends (event.Release n number) at = node_sends n (node_step (w.nodes n) (node.Release number)) at
   step_sends (event.Serve n number) at = node_sends n (node_step (w.nodes n) (node.Serve number)) at
-  step_sends (event.Hear number) at = absurd (cc)
+  step_sends (event.Hear number) at = absurd (no_hear config w u number at)
   step_sends event.Start at = absurd (cc)
 
 -- ---- runs
 
 run_sends : (config : Config) (w u : World) (events : List Event) (l : ℕ) → IsCluster config → w.events + length events < 2 ^ 63 → IsKept config w → run_from config (Some w) events ≡ Some u
-    → (u.clients l).seq ≡ (w.clients l).seq + sends l events
+    → (u.clients l).seq ≡ (w.clients l).seq + calls_sent l events
 run_sends config w u [] l cluster few k at = sym (ap (λ (v : World). (v.clients l).seq) (same_Some w u at)) ∙ nothing_more (w.clients l).seq
 run_sends config w u (e ∷ es) l cluster few k at =
-    elim (step config w e) as (λ o. step config w e ≡ o → run_from config o es ≡ Some u → (u.clients l).seq ≡ (w.clients l).seq + (sends_by l e + sends l es)) [
+    elim (step config w e) as (λ o. step config w e ≡ o → run_from config o es ≡ Some u → (u.clients l).seq ≡ (w.clients l).seq + (calls_sent_by l e + calls_sent l es)) [
       | None ↦ λ t z. absurd (dead es z)
       | Some v ↦ λ t z.
           let counted : v.events ≡ suc w.events = step_counts config w v e t in
@@ -111,29 +113,29 @@ run_sends config w u (e ∷ es) l cluster few k at =
     dead (x ∷ xs) z = cc
 
 -- each client has sent as many calls as its lane has Sends
-pub legal_sends : (config : Config) (events : List Event) (w : World) (l : ℕ) → IsLegal config events → run config events ≡ Some w → (w.clients l).seq ≡ sends l events
+pub legal_sends : (config : Config) (events : List Event) (w : World) (l : ℕ) → IsLegal config events → run config events ≡ Some w → (w.clients l).seq ≡ calls_sent l events
 unfolding run
 legal_sends config events w l legal at =
     let few = legal.few in
     let front : 0 + length events < 2 ^ 63 = omega arith in
     let all = run_sends config (opening_world config) w events l legal.cluster front (record { ghost = opening_ghost; shows = opening_shows config legal.cluster; ranged = opening_ranged config }) at in
-    all ∙ none_yet (sends l events)
+    all ∙ none_yet (calls_sent l events)
   where
     none_yet : (n : ℕ) → 0 + n ≡ n
     none_yet n = omega arith
 
 -- and so as many are recorded as sent
-pub legal_sents : (config : Config) (events : List Event) (l : ℕ) → IsLegal config events → sents l (transcript config events) ≡ sends l events
+pub legal_sents : (config : Config) (events : List Event) (l : ℕ) → IsLegal config events → sents l (transcript config events) ≡ calls_sent l events
 legal_sents config events l legal =
-    elim (run config events) as (λ o. run config events ≡ o → sents l (entries_at o) ≡ sends l events) [
+    elim (run config events) as (λ o. run config events ≡ o → sents l (entries_at o) ≡ calls_sent l events) [
       | None ↦ λ at. let some = legal.enabled in let wrong : is_some (run config events) ≡ false = ap is_some at in absurd (cc)
-      | Some w ↦ λ at. let k = legal_kept config events w legal at in k.shows.good.once.sent l ∙ legal_sends config events w l legal at
+      | Some w ↦ λ at. let k = legal_kept config events w legal at in k.shows.good.script.once.sent l ∙ legal_sends config events w l legal at
     ] refl
 
 -- ---- no fresh event but a Send is one
 
 abbrev IsReply : Event → Type 0
-IsReply e = (l : ℕ) → sends_by l e ≡ 0
+IsReply e = (l : ℕ) → calls_sent_by l e ≡ 0
 
 each_map : {A B : Type 0} (P : B → Type 0) (f : A → B) (xs : List A) → ((x : A) → P (f x)) → Each P (map f xs)
 each_map P f [] holds = tt
@@ -143,21 +145,28 @@ each_flat : {A B : Type 0} (P : B → Type 0) (f : A → List B) (xs : List A) �
 each_flat P f [] holds = tt
 each_flat P f (x ∷ xs) holds = each_join P (f x) (flat_map f xs) (holds x) (each_flat P f xs holds)
 
-own_reply : (number : ℕ) (e : NodeEvent) → IsReply (event_of number e)
-own_reply number (node.Deliver envelope) l = refl
-own_reply number node.Gather l = refl
-own_reply number (node.Exec batch) l = refl
-own_reply number (node.Release batch) l = refl
-own_reply number (node.Serve item) l = refl
+own_reply : (number : ℕ) (e : OwnEvent) → IsReply (event_of number e)
+own_reply number own.Gather l = refl
+own_reply number (own.Exec batch) l = refl
+own_reply number (own.Release batch) l = refl
+own_reply number (own.Serve item) l = refl
 
 replies : (config : Config) (w : World) (came : ℕ → Bool) → Each IsReply (fresh_replies config w came)
 replies config w came =
-    each_join IsReply (flat_map (λ lane. fresh_gets w came lane) (range_with_len 1 (length config.lanes))) (flat_map (λ number. fresh_at_node w came number) (range_with_len 0 config.nodes))
+    each_join IsReply (lanes ++ nodes) (fresh_at_coord w came)
+    (each_join IsReply lanes nodes
     (each_flat IsReply (λ lane. fresh_gets w came lane) (range_with_len 1 (length config.lanes)) (λ lane. each_map IsReply (λ number. event.Get lane number) (due (Client lane) came w.envelopes) (λ number l. refl)))
     (each_flat IsReply (λ number. fresh_at_node w came number) (range_with_len 0 config.nodes)
     (λ number. each_join IsReply (map (λ envelope. event.Deliver number envelope) (due (Node number) came w.envelopes)) (map (λ e. event_of number e) (dues (w.nodes number)))
     (each_map IsReply (λ envelope. event.Deliver number envelope) (due (Node number) came w.envelopes) (λ envelope l. refl))
-    (each_map IsReply (λ e. event_of number e) (dues (w.nodes number)) (λ e. own_reply number e))))
+    (each_map IsReply (λ e. event_of number e) (dues (w.nodes number)) (λ e. own_reply number e)))))
+    (each_join IsReply (map (λ number. event.Hear number) (due Coord came w.envelopes)) [] (each_map IsReply (λ number. event.Hear number) (due Coord came w.envelopes) (λ number l. refl)) tt)
+  where
+    lanes : List Event
+    lanes = flat_map (λ lane. fresh_gets w came lane) (range_with_len 1 (length config.lanes))
+
+    nodes : List Event
+    nodes = flat_map (λ number. fresh_at_node w came number) (range_with_len 0 config.nodes)
 
 first_of_each : {A : Type 0} (P : A → Type 0) (xs : List A) (x : A) → Each P xs → slice_get xs 0 ≡ Some x → P x
 first_of_each P [] x each at = absurd (cc)
@@ -171,7 +180,7 @@ first_is_reply config events e is =
     ] is
 
 -- the first fresh events other than Sends send no call
-pub drained_sends : (config : Config) (events more : List Event) → IsDrained config events more → (k : ℕ) (event : Event) → slice_get more k ≡ Some event → (l : ℕ) → sends_by l event ≡ 0
+pub drained_sends : (config : Config) (events more : List Event) → IsDrained config events more → (k : ℕ) (event : Event) → slice_get more k ≡ Some event → (l : ℕ) → calls_sent_by l event ≡ 0
 drained_sends config events more drained k event at l = first_is_reply config (events ++ take k more) event (drained.each k event at) l
 
 -- ---- the next call
@@ -208,8 +217,8 @@ has_next config (suc place) seq low =
     one_later : (n : ℕ) → n + 1 + 0 ≡ suc n
     one_later n = omega arith
 
-sends_next : (c : ClientState) (call : Call) → c.current ≡ None → slice_get c.left 0 ≡ Some call → client_move c client.Send ≡ Some (started c call (bad_path call.op))
-unfolding client_move sent_next
+sends_next : (c : ClientState) (call : Call) → c.current ≡ None → slice_get c.left 0 ≡ Some call → client_step c client.Send ≡ Some (started c call (bad_path call.op))
+unfolding client_step sent_next
 sends_next c call none left = ap (λ o. sent_next c o (slice_get c.left 0)) none ∙ ap (λ o. sent_next c None o) left
 
 -- where each call that was sent is answered no client has a call under way
@@ -218,20 +227,20 @@ none_busy config w lane current k answered busy =
     let good = k.shows.good in
     let under = ((k.shows.heard lane).some current busy).0 in
     ⊎_elim
-    (λ none. under (good.under_way.started lane none.1))
-    (λ some. let ne = some.1 in let sent = good.calls.entry lane (omega arith) in let told = answered sent.0 lane (w.clients lane).seq sent.1 in good.once.unanswered lane told.0 told.1.0 told.1.1.0 under told.1.1.1)
+    (λ none. under (good.lanes.under_way.started lane none.1))
+    (λ some. let ne = some.1 in let sent = good.script.calls.entry lane (omega arith) in let told = answered sent.0 lane (w.clients lane).seq sent.1 in good.script.once.unanswered lane told.0 told.1.0 told.1.1.0 under told.1.1.1)
     (tells (w.clients lane).seq 0)
 
 idle : (config : Config) (w : World) (lane : ℕ) → IsKept config w → AreAnswered w.entries → (w.clients lane).current ≡ None
 idle config w lane k answered =
     elim (w.clients lane).current as (λ o. (w.clients lane).current ≡ o → o ≡ None) [ None ↦ λ is. refl | Some current ↦ λ is. absurd (none_busy config w lane current k answered is) ] refl
 
-some_deed : (config : Config) (w : World) (lane : ℕ) (move : ClientMove) → is_lane config lane ≡ true → client_move (w.clients lane) client.Send ≡ Some move → is_some (deed config w (event.Send lane)) ≡ true
+some_deed : (config : Config) (w : World) (lane : ℕ) (move : ClientWork) → is_lane config lane ≡ true → client_step (w.clients lane) client.Send ≡ Some move → is_some (deed config w (event.Send lane)) ≡ true
 unfolding deed
-some_deed config w lane move there is = ap (λ b. is_some (client_deed w lane (only_where b (client_move (w.clients lane) client.Send)))) there ∙ ap (λ o. is_some (client_deed w lane o)) is
+some_deed config w lane move there is = ap (λ b. is_some (client_deed w lane (only_where b (client_step (w.clients lane) client.Send)))) there ∙ ap (λ o. is_some (client_deed w lane o)) is
 
 -- where each call that was sent is answered a lane's Send is enabled, if the lane has a call left
-pub send_enabled : (config : Config) (events : List Event) (w : World) (lane : ℕ) → IsLegal config events → run config events ≡ Some w → AreAnswered w.entries → sends lane events < length (calls_of_lane config lane)
+pub send_enabled : (config : Config) (events : List Event) (w : World) (lane : ℕ) → IsLegal config events → run config events ≡ Some w → AreAnswered w.entries → calls_sent lane events < length (calls_of_lane config lane)
     → is_some (deed config w (event.Send lane)) ≡ true
 send_enabled config events w lane legal at answered left =
     let k = legal_kept config events w legal at in

@@ -7,17 +7,17 @@ use Rattle.fal_base.specs.declared.event.Event.{Event}
 use Rattle.fal_base.specs.declared.event.Event.TheVariants.{Send}
 use Rattle.fal_script.specs.declared.script.ScriptCall.{ScriptCall}
 use Rattle.fal_story.specs.Fresh.{IsDrained}
-use Rattle.falcon_run.specs.Serial.{IsSerialFrom, IsSerialRun, counts, order_of, sends_by, sends}
-use Rattle.falcon_run.specs.Serving.{IsServed}
+use Rattle.falcon_run.specs.Serial.{IsSerialFrom, IsSerialRun, counts, order_of, calls_sent_by, calls_sent}
+use Rattle.falcon_run.specs.Serving.{IsServedAlone}
 
 -- ---- how many calls are sent
 
-pub sends_join : (lane : ℕ) (events more : List Event) → sends lane (events ++ more) ≡ sends lane events + sends lane more
+pub sends_join : (lane : ℕ) (events more : List Event) → calls_sent lane (events ++ more) ≡ calls_sent lane events + calls_sent lane more
 sends_join lane [] more = omega arith
 sends_join lane (event ∷ events) more = let rest = sends_join lane events more in omega arith
 
 -- events of which none is a Send
-pub none_sent : (lane : ℕ) (events : List Event) → ((k : ℕ) (event : Event) → slice_get events k ≡ Some event → sends_by lane event ≡ 0) → sends lane events ≡ 0
+pub none_sent : (lane : ℕ) (events : List Event) → ((k : ℕ) (event : Event) → slice_get events k ≡ Some event → calls_sent_by lane event ≡ 0) → calls_sent lane events ≡ 0
 none_sent lane [] each = refl
 none_sent lane (event ∷ events) each = let first = each 0 event refl in let rest = none_sent lane events (λ k e at. each (suc k) e at) in omega arith
 
@@ -26,13 +26,13 @@ counts_join lane [] more = omega arith
 counts_join lane (other ∷ lanes) more = let rest = counts_join lane lanes more in omega arith
 
 -- in a serial order each lane sends as many calls as it stands among the lanes
-pub serial_sends : (config : Config) → ((events more : List Event) → IsDrained config events more → (lane : ℕ) → sends lane more ≡ 0) → (before : List Event) (lanes : List ℕ) (rest : List Event) (lane : ℕ)
-    → IsSerialFrom config before lanes rest → sends lane rest ≡ counts lane lanes
-serial_sends config quiet before [] rest lane is = ap (sends lane) is
+pub serial_sends : (config : Config) → ((events more : List Event) → IsDrained config events more → (lane : ℕ) → calls_sent lane more ≡ 0) → (before : List Event) (lanes : List ℕ) (rest : List Event) (lane : ℕ)
+    → IsSerialFrom config before lanes rest → calls_sent lane rest ≡ counts lane lanes
+serial_sends config quiet before [] rest lane is = ap (calls_sent lane) is
 serial_sends config quiet before (l ∷ lanes) rest lane is =
     let more = is.0 in
     let later = is.1.0 in
-    let split : sends lane rest ≡ sends_by lane (Send l) + sends lane (more ++ later) = ap (sends lane) is.1.1.0 in
+    let split : calls_sent lane rest ≡ calls_sent_by lane (Send l) + calls_sent lane (more ++ later) = ap (calls_sent lane) is.1.1.0 in
     let parts = sends_join lane more later in
     let none = quiet (before ++ Send l ∷ []) more is.1.1.1 lane in
     let others = serial_sends config quiet (before ++ Send l ∷ more) lanes later lane is.1.1.2 in
@@ -68,7 +68,7 @@ one_more config before (l ∷ lanes) rest lane more is drained =
       ),
     )
 
-pub serial_more : (config : Config) (lanes : List ℕ) (before after : List Event) (lane : ℕ) → IsSerialRun config lanes before → IsServed config lane before after → IsSerialRun config (lanes ++ lane ∷ []) after
+pub serial_more : (config : Config) (lanes : List ℕ) (before after : List Event) (lane : ℕ) → IsSerialRun config lanes before → IsServedAlone config lane before after → IsSerialRun config (lanes ++ lane ∷ []) after
 serial_more config lanes before after lane serial served =
     subst (λ (es : List Event). IsSerialRun config (lanes ++ lane ∷ []) es) (sym served.1.0) (one_more config [] lanes before lane served.0 serial served.1.1)
 

@@ -25,6 +25,10 @@ cluster_of script = config_of_script script 1
 abbrev pub IsRunOf : Script → Config → List Event → Type 0
 IsRunOf script config events = (config ≡ cluster_of script) × IsRecorded config (order_of script.lines) events
 
+-- the statuses that a run answers
+abbrev pub IsStatus : ℕ → Type 0
+IsStatus status = (status ≡ 0) ⊎ (status ≡ 2) ⊎ (status ≡ 3) ⊎ (status ≡ 4) ⊎ (status ≡ 5) ⊎ (status ≡ 6) ⊎ (status ≡ 7)
+
 -- the line that is written with a status, where one is
 abbrev pub usage_line : List ℕ
 usage_line = codes "falcon: usage\n"

@@ -1,6 +1,6 @@
 -- What reading a script gives, or why there is none.
 use Rattle.std.specs.Prelude.{◌≡◌, ℕ, ◌≤◌, length, List, Option, Some, None, Result, Ok, Err}
-use Rattle.fal_io.specs.Causes.{Rose}
+use Rattle.fal_io.specs.Causes.{Rose, Took}
 use Rattle.fal_script.specs.declared.script.Script.{Script}
 use Rattle.fal_script.specs.Script.{script_of}
 use Rattle.falcon_run.specs.declared.reading.Unread.{Unread}
@@ -15,16 +15,17 @@ IsScript bytes (Err NoScript) = script_of bytes ≡ None
 IsScript bytes (Err OutOfMemory) = Unit {0}
 IsScript bytes (Err ReadFault) = ⊥
 
-abbrev pub Reads : Option (List ℕ) → Option (List ℕ) → ℕ → ℕ → Result Script Unread → Type 0
-Reads left rest before now (Ok script) = GaveScript left rest script
-Reads left rest before now (Err ReadFault) = Rose before now
-Reads left rest before now (Err TooLarge) = GaveTooMuch left rest
-Reads left rest before now (Err NoScript) = GaveNoScript left rest
-Reads left rest before now (Err OutOfMemory) = Unit {0}
+-- what the source gave, or why there is no script of it
+abbrev pub Gives : Option (List ℕ) → Option (List ℕ) → ℕ → ℕ → Result Script Unread → Type 0
+Gives left rest before now (Ok script) = GaveScript left rest script
+Gives left rest before now (Err ReadFault) = Rose before now × Took left rest (λ n. n ≤ 16777216)
+Gives left rest before now (Err TooLarge) = GaveTooMuch left rest
+Gives left rest before now (Err NoScript) = GaveNoScript left rest
+Gives left rest before now (Err OutOfMemory) = Unit {0}
 
 -- whatever comes of it, the source has lost a front of what it had
 pub record IsReading (left rest : Option (List ℕ)) (before now : ℕ) (result : Result Script Unread) : Type 0 where
-  pub reads : Reads left rest before now result
+  pub gives : Gives left rest before now result
   pub lost : LostFront left rest
 
 -- the status that the bytes are owed where they were all told and the source did not fail

@@ -8,6 +8,8 @@ use Rattle.fal_base.specs.declared.reply.Reply.{Reply}
 use Rattle.fal_base.specs.EachOnce.{IsEachOnce}
 use Rattle.fal_base.specs.History.{IsLegalHistory}
 use Rattle.fal_base.specs.Linear.{IsLinear}
+use Rattle.fal_base.specs.Listing.{AreListings}
+use Rattle.fal_base.specs.Places.{AreOlder, ArePlaced}
 use Rattle.fal_base.specs.Transcript.{call_of}
 use Rattle.fal_base.specs.Tree.{lines_of}
 use Rattle.fal_report.specs.Transcripts.{transcript_text}
@@ -21,8 +23,8 @@ abbrev pub AreAllAnswered : Config → List Entry → Type 0
 AreAllAnswered config entries = (lane seq : ℕ) → IsSome (call_of config lane seq)
     → (i : ℕ) × ((point : ℕ) × ((reply : Reply) × (slice_get entries i ≡ Some (entry.Answered lane seq point reply))))
 
--- a complete legal run, in the serial order of these lanes. Every call is answered, and once; each reply is the plain tree's at its point, and
--- the calls have one sequential history
+-- a complete legal run, in the serial order of these lanes. Every call is answered, and once; a reply with names is a listing, one to a change of
+-- placement is by what was placed, and each other one is the plain tree's at its point; these calls have one sequential history
 pub record IsRecorded (config : Config) (lanes : List ℕ) (events : List Event) : Type 0 where
   pub legal : IsLegal config events
   pub serial : IsSerialRun config lanes events
@@ -30,6 +32,9 @@ pub record IsRecorded (config : Config) (lanes : List ℕ) (events : List Event)
   pub answered : AreAllAnswered config (transcript config events)
   pub once : IsEachOnce config (transcript config events)
   pub linear : IsLinear config (transcript config events)
+  pub listings : AreListings config (transcript config events)
+  pub stale : AreOlder (transcript config events)
+  pub placed : ArePlaced config (transcript config events)
   pub history : IsLegalHistory config (transcript config events)
 
 -- the text of a run: its entries, line by line, and the tree that its commits leave

@@ -28,11 +28,11 @@ counts lane [] = 0
 counts lane (other ∷ lanes) = (if other == lane then 1 else 0) + counts lane lanes
 
 -- how many calls of this lane an event sends
-abbrev pub sends_by : ℕ → Event → ℕ
-sends_by lane (Send other) = if other == lane then 1 else 0
-sends_by lane other = 0
+abbrev pub calls_sent_by : ℕ → Event → ℕ
+calls_sent_by lane (Send other) = if other == lane then 1 else 0
+calls_sent_by lane other = 0
 
 -- how many calls of this lane events send
-abbrev pub sends : ℕ → List Event → ℕ
-sends lane [] = 0
-sends lane (event ∷ events) = sends_by lane event + sends lane events
+abbrev pub calls_sent : ℕ → List Event → ℕ
+calls_sent lane [] = 0
+calls_sent lane (event ∷ events) = calls_sent_by lane event + calls_sent lane events

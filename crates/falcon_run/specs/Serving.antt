@@ -13,8 +13,8 @@ abbrev pub HasCallsFor : Config → List ℕ → Type 0
 HasCallsFor config lanes = (lane : ℕ) → counts lane lanes ≡ length (calls_of_lane config lane)
 
 -- the lane's Send and then the first fresh events other than Sends, until there was none
-abbrev pub IsServed : Config → ℕ → List Event → List Event → Type 0
-IsServed config lane before after = (more : List Event) × ((after ≡ before ++ Send lane ∷ more) × IsDrained config (before ++ Send lane ∷ []) more)
+abbrev pub IsServedAlone : Config → ℕ → List Event → List Event → Type 0
+IsServedAlone config lane before after = (more : List Event) × ((after ≡ before ++ Send lane ∷ more) × IsDrained config (before ++ Send lane ∷ []) more)
 
 -- a call for each of these lanes was sent alone, in this order. The cluster is quiet, and each of them is answered
 pub record AreServed (config : Config) (lanes : List ℕ) (events : List Event) : Type 0 where

@@ -1,13 +1,13 @@
 ghost use Rattle.std.specs.Prelude.{◌≡◌, ◌≢◌, ◌⊎◌, ◌<◌, ◌≤◌, ◌^◌, ◌↔◌, [], List, ℕ, IfOk, OnOk, Some, None, Option, length, map, string_bytes, IsTrue, Result};
-ghost use Rattle.fal_io.specs.Causes.{Rose, AppendsFront};
+ghost use Rattle.fal_io.specs.Causes.{Rose, AppendsFront, Took};
 ghost use Rattle.std.specs.Io.KnownBytes.{Appends};
 ghost use Rattle.falcon_run.specs.Answers.{Refuses, Writes, IsOwed};
 ghost use Rattle.falcon_run.specs.Recorded.{IsRecorded, run_text as run_text_of};
 ghost use Rattle.falcon_run.specs.Serial.{order_of};
-ghost use Rattle.fal_script.specs.Ranges.{IsInRange};
+ghost use Rattle.fal_script.specs.Ranges.{IsSpelledScript};
 ghost use Rattle.fal_story.specs.Clusters.{IsCluster};
 ghost use Rattle.fal_story.specs.Run.{IsLegal};
-ghost use Rattle.falcon_run.specs.Headline.{IsSerial, cluster_of, usage_line, script_line, fault_line, large_line, GaveNoScript, GaveTooMuch, LostFront, Wrote, IsDone, IsCutOff, WantsMemory, owed};
+ghost use Rattle.falcon_run.specs.Headline.{IsSerial, cluster_of, usage_line, script_line, fault_line, large_line, GaveNoScript, GaveTooMuch, IsStatus, Wrote, IsDone, IsCutOff, WantsMemory, owed};
 
 use crate::reading::{Unread, read_script};
 use crate::serving::serve;
@@ -67,7 +67,7 @@ fn run_cluster(
     script: &Script,
 ) -> Result<Vec<u8>, OutOfMemory>
     requires config { cluster.old.config ≡ cluster_of script.now }
-    requires range { IsInRange script.now }
+    requires range { IsSpelledScript script.now }
     requires none { cluster.old.events ≡ [] }
     ensures config { cluster.new.config ≡ cluster.old.config }
     ensures legal { IsLegal cluster.new.config cluster.new.events }
@@ -83,7 +83,7 @@ fn run_cluster(
 // Runs the script's cluster, keeps the run in the trace, and writes its text.
 fn run_script<K: Sink>(alloc: Global, script: &Script, sink: &mut K, trace: &mut Trace) -> u8
     requires cluster { IsCluster (cluster_of script.now) }
-    requires range { IsInRange script.now }
+    requires range { IsSpelledScript script.now }
     requires config { trace.old.config ≡ None }
     requires events { trace.old.events.items ≡ [] }
     ensures { Writes script.now (K.holds sink.old) (K.holds sink.new) (K.faults sink.old) (K.faults sink.new) trace.new.config trace.new.events.items result }
@@ -110,16 +110,17 @@ fn run_script<K: Sink>(alloc: Global, script: &Script, sink: &mut K, trace: &mut
 /// `trace` is empty at entry. The answer is the status of the program:
 ///
 /// - 0: the whole text was written, and `trace` has the script's cluster and its run. The run is legal and complete, in the serial order: each
-///   call alone, in line order. Every call is answered once, and every reply is the plain tree's at one point of the commits between the
-///   call's sending and its answering.
+///   call alone, in line order. Every call is answered once. A reply with names is a listing, which holds what stood throughout and nothing that
+///   never stood; one to a change of placement is by what was placed; every other reply is the plain tree's at one point of the commits between
+///   the call's sending and its answering.
 /// - 2, `falcon: usage`: the words are not the one word `serial`. Nothing was read.
 /// - 3, `falcon: script`: the bytes, within the limit, are not in the grammar.
-/// - 4, `falcon: read fault`: the source's count of faults rose.
+/// - 4, `falcon: read fault`: the source's count of faults rose, and at most 16,777,216 bytes had come.
 /// - 5: the sink's count of faults rose while the text was written, of which it has a front. `trace` is as with 0.
 /// - 6: want of memory. The sink has a front of the text or of a line. `trace` is empty, or has a legal run of the script's cluster.
 /// - 7, `falcon: too large`: more than 16,777,216 bytes came, or a script of more than 10,000 calls.
 ///
-/// With 2, 3, 4 and 7 `trace` stays empty, and the line is written whole where the sink's count of faults did not rise.
+/// No other status is answered. With 2, 3, 4 and 7 `trace` stays empty, and the line is written whole where the sink's count of faults did not rise.
 pub fn run_serial<S: Source, K: Sink>(
     alloc: Global,
     words: &[String],
@@ -130,11 +131,13 @@ pub fn run_serial<S: Source, K: Sink>(
     requires config { trace.old.config ≡ None }
     requires events { trace.old.events.items ≡ [] }
 
+    ensures statuses { IsStatus result }
+
     // What each status says of the words and of the bytes that were read.
     ensures done { result ≡ 0 → IsDone (S.left source.old) (S.left source.new) (K.holds sink.old) (K.holds sink.new) trace.new.config trace.new.events.items }
     ensures usage { result ≡ 2 → (IsSerial words.now → ⊥) × (source.new ≡ source.old) }
     ensures script { result ≡ 3 → GaveNoScript (S.left source.old) (S.left source.new) }
-    ensures fault { result ≡ 4 → Rose (S.faults source.old) (S.faults source.new) × LostFront (S.left source.old) (S.left source.new) }
+    ensures fault { result ≡ 4 → Rose (S.faults source.old) (S.faults source.new) × Took (S.left source.old) (S.left source.new) (λ n. n ≤ 16777216) }
     ensures cut_off { result ≡ 5 → Rose (K.faults sink.old) (K.faults sink.new) × IsCutOff (S.left source.old) (S.left source.new) (K.holds sink.old) (K.holds sink.new) trace.new.config trace.new.events.items }
     ensures memory { result ≡ 6 → WantsMemory (S.left source.old) (S.left source.new) (K.holds sink.old) (K.holds sink.new) trace.new.config trace.new.events.items }
     ensures large { result ≡ 7 → GaveTooMuch (S.left source.old) (S.left source.new) }

@@ -1,26 +1,26 @@
 // The calls of a script, one after another.
 ghost use Rattle.std.specs.Prelude.{◌≡◌, ◌<◌, OnOk, [], length};
 ghost use Rattle.fal_alone.specs.Turns.{world_of};
-ghost use Rattle.fal_script.specs.Ranges.{IsInRange};
+ghost use Rattle.fal_script.specs.Ranges.{IsSpelledScript};
 ghost use Rattle.fal_story.specs.Clusters.{calls_of_lane};
 ghost use Rattle.fal_story.specs.Fresh.{AreAnswered, IsQuietAt, came};
 ghost use Rattle.fal_story.specs.Run.{transcript};
 ghost use Rattle.falcon_run.specs.Headline.{cluster_of};
 ghost use Rattle.falcon_run.specs.Recorded.{IsRecorded};
-ghost use Rattle.falcon_run.specs.Serial.{order_of, sends};
-ghost use Rattle.falcon_run.specs.Serving.{AreServed, HasCallsFor, IsServed};
+ghost use Rattle.falcon_run.specs.Serial.{order_of, calls_sent};
+ghost use Rattle.falcon_run.specs.Serving.{AreServed, HasCallsFor, IsServedAlone};
 
 use fal_alone::Cluster;
 use fal_base::{Event, OutOfMemory, Refuse};
-use fal_law::{each_once, linear};
+use fal_law::{each_once, linear, listings, places, stale_is_older};
 use fal_script::{Script, ScriptCall};
 
 // Sends the next call of a lane where each call before is answered, and leaves the cluster alone until it is quiet.
 fn serve_call(cluster: &mut Cluster, lane: u8) -> Result<(), OutOfMemory>
     requires answered { AreAnswered (transcript cluster.old.config cluster.old.events) }
-    requires left { sends lane cluster.old.events < length (calls_of_lane cluster.old.config lane) }
+    requires left { calls_sent lane cluster.old.events < length (calls_of_lane cluster.old.config lane) }
     ensures config { cluster.new.config ≡ cluster.old.config }
-    ensures served { OnOk result (IsServed cluster.old.config lane cluster.old.events cluster.new.events) }
+    ensures served { OnOk result (IsServedAlone cluster.old.config lane cluster.old.events cluster.new.events) }
     ensures quiet { OnOk result (IsQuietAt cluster.new.config (world_of cluster.new) (came cluster.new.events)) }
     ensures answered { OnOk result (AreAnswered (transcript cluster.new.config cluster.new.events)) }
 {
@@ -49,7 +49,7 @@ fn serve_lines(cluster: &mut Cluster, lines: &[ScriptCall]) -> Result<(), OutOfM
 /// of memory where there is too little; then the cluster's run is a legal one, but not whole.
 pub fn serve(cluster: &mut Cluster, script: &Script) -> Result<(), OutOfMemory>
     requires config { cluster.old.config ≡ cluster_of script.now }
-    requires range { IsInRange script.now }
+    requires range { IsSpelledScript script.now }
     requires none { cluster.old.events ≡ [] }
     ensures config { cluster.new.config ≡ cluster.old.config }
     ensures recorded { OnOk result (IsRecorded cluster.new.config (order_of script.now.lines) cluster.new.events) }
@@ -59,5 +59,8 @@ pub fn serve(cluster: &mut Cluster, script: &Script) -> Result<(), OutOfMemory>
     book.legal();
     each_once(book);
     linear(book);
+    listings(book);
+    stale_is_older(book);
+    places(book);
     Ok(())
 }

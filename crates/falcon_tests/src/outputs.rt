@@ -1,12 +1,235 @@
+//! Scripts and their transcripts.
+
 use crate::running::run;
 use std::alloc::Global;
 use std::test::Fail;
 
-const HEADER: &[u8] = b"falcon-script 1\nnodes 1\nlanes 1\n";
+// Scripts with what the program writes.
+const RUNS: [(&str, &str); 5] = [
+    (
+        "\
+falcon-script 1
+nodes 1
+lanes 1
+",
+        "\
+falcon-transcript 1
+nodes 1
+lanes 1
+tree 1
+0 / 1 dir 755 0:0 0
+calls 0
+ok 0
+failed 0
+commits 0
+directories 1
+files 0
+",
+    ),
+    (
+        "\
+falcon-script 1
+nodes 1
+lanes 1
+1 0:0 mkdir /a 755
+1 0:0 stat /a
+1 0:0 stat /
+",
+        "\
+falcon-transcript 1
+nodes 1
+lanes 1
+sent 1.1 0:0 mkdir /a 755
+commit 1.1 256
+answered 1.1 0 ok
+sent 1.2 0:0 stat /a
+answered 1.2 1 stat 256 dir 755 0:0 0
+sent 1.3 0:0 stat /
+answered 1.3 1 stat 1 dir 755 0:0 0
+tree 2
+0 / 1 dir 755 0:0 0
+1 a 256 dir 755 0:0 0
+calls 3
+ok 3
+failed 0
+commits 1
+directories 2
+files 0
+",
+    ),
+    // two lanes take turns, and each of the keys lives at a node of its own
+    (
+        "\
+falcon-script 1
+nodes 4
+lanes 2
+1 0:0 mkdir /data 755
+2 0:0 create /data/x 644
+1 1000:100 truncate /data/x 10
+2 1000:100 stat /data/x
+1 0:0 unlink /data/x
+",
+        "\
+falcon-transcript 1
+nodes 4
+lanes 2
+sent 1.1 0:0 mkdir /data 755
+commit 1.1 257
+answered 1.1 0 ok
+sent 2.1 0:0 create /data/x 644
+commit 2.1 259
+answered 2.1 1 ok
+sent 1.2 1000:100 truncate /data/x 10
+answered 1.2 2 EACCES
+sent 2.2 1000:100 stat /data/x
+answered 2.2 2 stat 259 file 644 0:0 0
+sent 1.3 0:0 unlink /data/x
+commit 1.3 0
+answered 1.3 2 ok
+tree 2
+0 / 1 dir 755 0:0 0
+1 data 257 dir 755 0:0 0
+calls 5
+ok 4
+failed 1
+commits 3
+directories 2
+files 0
+",
+    ),
+    // the checks of an operation come in their order
+    (
+        "\
+falcon-script 1
+nodes 1
+lanes 1
+1 0:0 mkdir /d 700
+1 0:0 create /f 644
+1 1000:100 stat /d/none/x
+1 1000:100 stat /none/x
+1 1000:100 stat /f/x
+1 1000:100 mkdir /d 755
+1 1000:100 mkdir /e 755
+1 1000:100 unlink /d
+1 0:0 unlink /d
+",
+        "\
+falcon-transcript 1
+nodes 1
+lanes 1
+sent 1.1 0:0 mkdir /d 700
+commit 1.1 256
+answered 1.1 0 ok
+sent 1.2 0:0 create /f 644
+commit 1.2 512
+answered 1.2 1 ok
+sent 1.3 1000:100 stat /d/none/x
+answered 1.3 2 EACCES
+sent 1.4 1000:100 stat /none/x
+answered 1.4 2 ENOENT
+sent 1.5 1000:100 stat /f/x
+answered 1.5 2 ENOTDIR
+sent 1.6 1000:100 mkdir /d 755
+answered 1.6 2 EEXIST
+sent 1.7 1000:100 mkdir /e 755
+answered 1.7 2 EACCES
+sent 1.8 1000:100 unlink /d
+answered 1.8 2 EACCES
+sent 1.9 0:0 unlink /d
+answered 1.9 2 EPERM
+tree 3
+0 / 1 dir 755 0:0 0
+1 d 256 dir 700 0:0 0
+1 f 512 file 644 0:0 0
+calls 9
+ok 2
+failed 7
+commits 2
+directories 2
+files 1
+",
+    ),
+    // empty parts of a path are dropped, and dots and relative paths are refused
+    (
+        "\
+falcon-script 1
+nodes 1
+lanes 1
+1 0:0 mkdir /a 755
+1 0:0 mkdir /a/b 755
+1 0:0 stat //a///b/
+1 0:0 stat /a/./b
+1 0:0 stat a
+",
+        "\
+falcon-transcript 1
+nodes 1
+lanes 1
+sent 1.1 0:0 mkdir /a 755
+commit 1.1 256
+answered 1.1 0 ok
+sent 1.2 0:0 mkdir /a/b 755
+commit 1.2 512
+answered 1.2 1 ok
+sent 1.3 0:0 stat /a/b
+answered 1.3 2 stat 512 dir 755 0:0 0
+sent 1.4 0:0 stat /a/./b
+answered 1.4 2 EINVAL
+sent 1.5 0:0 stat a
+answered 1.5 2 EINVAL
+tree 3
+0 / 1 dir 755 0:0 0
+1 a 256 dir 755 0:0 0
+256 b 512 dir 755 0:0 0
+calls 5
+ok 3
+failed 2
+commits 2
+directories 3
+files 0
+",
+    ),
+];
 
-fn script(alloc: Global, calls: &[u8]) -> Result<Vec<u8>, Fail> {
-    let mut script = Vec::from_slice(alloc, HEADER)?;
-    script.extend_from_slice(calls)?;
+#[test]
+fn a_script_has_its_transcript(rt: HostRuntime) -> Result<(), Fail> {
+    for (script, wanted) in RUNS {
+        let ran = run(rt.alloc(), script.as_bytes())?;
+        assert_eq!(rt; ran.status, 0, "{script}");
+        assert_eq!(rt; str::from_utf8(&ran.text)?, wanted);
+        assert!(rt; ran.is_traced);
+    }
+    Ok(())
+}
+
+// Calls whose path has so many equal pieces, with the answer.
+const LONG: [(&str, &str, usize, &str, &str); 4] = [
+    ("create /", "n", 255, " 644\n", "answered 1.1 0 ok"),
+    (
+        "create /",
+        "n",
+        256,
+        " 644\n",
+        "answered 1.1 0 ENAMETOOLONG",
+    ),
+    ("stat ", "/a", 2047, "/\n", "answered 1.1 0 ENOENT"),
+    ("stat ", "/a", 2048, "\n", "answered 1.1 0 ENAMETOOLONG"),
+];
+
+// A script of one call, whose path has so many equal pieces.
+fn long_script(
+    alloc: Global,
+    verb: &str,
+    piece: &str,
+    times: usize,
+    rest: &str,
+) -> Result<Vec<u8>, Fail> {
+    let mut script = Vec::from_slice(alloc, b"falcon-script 1\nnodes 1\nlanes 1\n1 0:0 ")?;
+    script.extend_from_slice(verb.as_bytes())?;
+    for _ in 0..times {
+        script.extend_from_slice(piece.as_bytes())?;
+    }
+    script.extend_from_slice(rest.as_bytes())?;
     Ok(script)
 }
 
@@ -16,118 +239,13 @@ fn has_line(text: &[u8], line: &[u8]) -> bool {
 }
 
 #[test]
-fn empty_run(rt: HostRuntime) -> Result<(), Fail> {
-    let ran = run(rt.alloc(), HEADER)?;
-    let wanted =
-        b"falcon-transcript 1\nnodes 1\nlanes 1\ntree 1\n0 / 1 dir 755 0:0 0\ncalls 0\nok 0\nfailed 0\ncommits 0\ndirectories 1\nfiles 0\n";
-    assert_eq!(rt; ran.status, 0);
-    assert_eq!(rt; ran.text.as_slice(), wanted.as_slice());
-    assert!(rt; ran.is_traced);
-    Ok(())
-}
-
-#[test]
-fn mkdir_then_stat(rt: HostRuntime) -> Result<(), Fail> {
-    let script = script(
-        rt.alloc(),
-        b"1 0:0 mkdir /a 755\n1 0:0 stat /a\n1 0:0 stat /\n",
-    )?;
-    let ran = run(rt.alloc(), &script)?;
-    let wanted =
-        b"falcon-transcript 1\nnodes 1\nlanes 1\nsent 1.1 0:0 mkdir /a 755\ncommit 1.1 256\nanswered 1.1 0 ok\nsent 1.2 0:0 stat /a\nanswered 1.2 1 stat 256 dir 755 0:0 0\nsent 1.3 0:0 stat /\nanswered 1.3 1 stat 1 dir 755 0:0 0\ntree 2\n0 / 1 dir 755 0:0 0\n1 a 256 dir 755 0:0 0\ncalls 3\nok 3\nfailed 0\ncommits 1\ndirectories 2\nfiles 0\n";
-    assert_eq!(rt; ran.status, 0);
-    assert_eq!(rt; ran.text.as_slice(), wanted.as_slice());
-    Ok(())
-}
-
-// Two lanes take turns, and each of the keys lives at a node of its own.
-#[test]
-fn four_nodes_and_two_lanes(rt: HostRuntime) -> Result<(), Fail> {
-    let script =
-        b"falcon-script 1\nnodes 4\nlanes 2\n1 0:0 mkdir /data 755\n2 0:0 create /data/x 644\n1 1000:100 truncate /data/x 10\n2 1000:100 stat /data/x\n1 0:0 unlink /data/x\n";
-    let wanted =
-        b"falcon-transcript 1\nnodes 4\nlanes 2\nsent 1.1 0:0 mkdir /data 755\ncommit 1.1 257\nanswered 1.1 0 ok\nsent 2.1 0:0 create /data/x 644\ncommit 2.1 259\nanswered 2.1 1 ok\nsent 1.2 1000:100 truncate /data/x 10\nanswered 1.2 2 EACCES\nsent 2.2 1000:100 stat /data/x\nanswered 2.2 2 stat 259 file 644 0:0 0\nsent 1.3 0:0 unlink /data/x\ncommit 1.3 0\nanswered 1.3 2 ok\ntree 2\n0 / 1 dir 755 0:0 0\n1 data 257 dir 755 0:0 0\ncalls 5\nok 4\nfailed 1\ncommits 3\ndirectories 2\nfiles 0\n";
-    let ran = run(rt.alloc(), script)?;
-    assert_eq!(rt; ran.status, 0);
-    assert_eq!(rt; ran.text.as_slice(), wanted.as_slice());
-    assert!(rt; ran.is_traced);
-    Ok(())
-}
-
-#[test]
-fn checks_in_their_order(rt: HostRuntime) -> Result<(), Fail> {
-    let calls =
-        b"1 0:0 mkdir /d 700\n1 0:0 create /f 644\n1 1000:100 stat /d/none/x\n1 1000:100 stat /none/x\n1 1000:100 stat /f/x\n1 1000:100 mkdir /d 755\n1 1000:100 mkdir /e 755\n1 1000:100 unlink /d\n1 0:0 unlink /d\n";
-    let ran = run(rt.alloc(), &script(rt.alloc(), calls)?)?;
-    let lines: [&[u8]; 9] = [
-        b"commit 1.1 256",
-        b"commit 1.2 512",
-        b"answered 1.3 2 EACCES",
-        b"answered 1.4 2 ENOENT",
-        b"answered 1.5 2 ENOTDIR",
-        b"answered 1.6 2 EEXIST",
-        b"answered 1.7 2 EACCES",
-        b"answered 1.8 2 EACCES",
-        b"answered 1.9 2 EPERM",
-    ];
-    for line in lines {
-        assert!(rt; has_line(&ran.text, line), "{line:?}");
-    }
-    Ok(())
-}
-
-#[test]
-fn dots_and_relative_paths(rt: HostRuntime) -> Result<(), Fail> {
-    let calls =
-        b"1 0:0 mkdir /a 755\n1 0:0 mkdir /a/b 755\n1 0:0 stat //a///b/\n1 0:0 stat /a/./b\n1 0:0 stat a\n";
-    let ran = run(rt.alloc(), &script(rt.alloc(), calls)?)?;
-    let lines: [&[u8]; 6] = [
-        b"sent 1.3 0:0 stat /a/b",
-        b"answered 1.3 2 stat 512 dir 755 0:0 0",
-        b"sent 1.4 0:0 stat /a/./b",
-        b"answered 1.4 2 EINVAL",
-        b"sent 1.5 0:0 stat a",
-        b"answered 1.5 2 EINVAL",
-    ];
-    for line in lines {
-        assert!(rt; has_line(&ran.text, line), "{line:?}");
-    }
-    Ok(())
-}
-
-// A call's line, with a path of so many equal pieces.
-fn long_call(
-    alloc: Global,
-    verb: &[u8],
-    piece: &[u8],
-    times: usize,
-    rest: &[u8],
-) -> Result<Vec<u8>, Fail> {
-    let mut call = Vec::from_slice(alloc, verb)?;
-    for _ in 0..times {
-        call.extend_from_slice(piece)?;
-    }
-    call.extend_from_slice(rest)?;
-    Ok(call)
-}
-
-#[test]
 fn long_names_and_paths(rt: HostRuntime) -> Result<(), Fail> {
-    let alloc = rt.alloc();
-    let mut script = Vec::from_slice(alloc, HEADER)?;
-    script.extend_from_slice(&long_call(alloc, b"1 0:0 create /", b"n", 255, b" 644\n")?)?;
-    script.extend_from_slice(&long_call(alloc, b"1 0:0 create /", b"n", 256, b" 644\n")?)?;
-    script.extend_from_slice(&long_call(alloc, b"1 0:0 stat ", b"/a", 2047, b"/\n")?)?;
-    script.extend_from_slice(&long_call(alloc, b"1 0:0 stat ", b"/a", 2048, b"\n")?)?;
-    let ran = run(alloc, &script)?;
-    let lines: [&[u8]; 4] = [
-        b"answered 1.1 0 ok",
-        b"answered 1.2 1 ENAMETOOLONG",
-        b"answered 1.3 1 ENOENT",
-        b"answered 1.4 1 ENAMETOOLONG",
-    ];
-    for line in lines {
-        assert!(rt; has_line(&ran.text, line), "{line:?}");
+    for (verb, piece, times, rest, line) in LONG {
+        let ran = run(
+            rt.alloc(),
+            &long_script(rt.alloc(), verb, piece, times, rest)?,
+        )?;
+        assert!(rt; has_line(&ran.text, line.as_bytes()), "{line}");
     }
     Ok(())
 }

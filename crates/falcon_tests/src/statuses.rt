@@ -3,13 +3,15 @@ use fal_io::{MemSink, MemSource};
 use std::alloc::Global;
 use std::test::Fail;
 
-const HEADER: &[u8] = b"falcon-script 1\nnodes 1\nlanes 1\n";
+const HEADER: &str = "falcon-script 1\nnodes 1\nlanes 1\n";
 
-const LOOK: &[u8] = b"1 0:0 stat /a\n";
+const LOOK: &str = "1 0:0 stat /a\n";
+
+const CALL: &str = "falcon-script 1\nnodes 1\nlanes 1\n1 0:0 stat /";
 
 fn with_words(alloc: Global, words: &[&str]) -> Result<Ran, Fail> {
     let sink = MemSink::new(alloc, 65_536, Vec::new(alloc));
-    run_with(alloc, words, whole(alloc, HEADER)?, sink)
+    run_with(alloc, words, whole(alloc, HEADER.as_bytes())?, sink)
 }
 
 #[test]
@@ -45,7 +47,7 @@ fn other_lines_are_no_script(rt: HostRuntime) -> Result<(), Fail> {
         b"1 0:0 stat /%41\n",
     ];
     for line in table {
-        let mut script = Vec::from_slice(rt.alloc(), HEADER)?;
+        let mut script = Vec::from_slice(rt.alloc(), HEADER.as_bytes())?;
         script.extend_from_slice(line)?;
         let ran = run(rt.alloc(), &script)?;
         assert_eq!(rt; ran.status, 3, "{line:?}");
@@ -72,89 +74,129 @@ fn other_headers_are_no_script(rt: HostRuntime) -> Result<(), Fail> {
     Ok(())
 }
 
-fn repeated(alloc: Global, start: &[u8], piece: &[u8], times: usize) -> Result<Vec<u8>, Fail> {
-    let mut bytes = Vec::from_slice(alloc, start)?;
+// A script with many equal pieces: how it begins, the piece, how often, how it ends, and the status with how the text begins.
+type Long = (
+    &'static str,
+    &'static str,
+    usize,
+    &'static str,
+    u8,
+    &'static str,
+);
+
+// A line has at most 16,384 bytes, and a script 16,777,216.
+const LONG: [Long; 3] = [
+    (CALL, "a", 16_372, "\n", 0, "falcon-transcript 1\n"),
+    (CALL, "a", 16_373, "\n", 3, "falcon: script\n"),
+    (
+        "x",
+        "0123456789abcdef",
+        1_048_576,
+        "",
+        7,
+        "falcon: too large\n",
+    ),
+];
+
+// A script has at most 10,000 calls.
+const MANY: [Long; 2] = [
+    (HEADER, LOOK, 10_000, "", 0, "falcon-transcript 1\n"),
+    (HEADER, LOOK, 10_001, "", 7, "falcon: too large\n"),
+];
+
+fn repeated(
+    alloc: Global,
+    start: &str,
+    piece: &str,
+    times: usize,
+    end: &str,
+) -> Result<Vec<u8>, Fail> {
+    let mut bytes = Vec::from_slice(alloc, start.as_bytes())?;
     for _ in 0..times {
-        bytes.extend_from_slice(piece)?;
+        bytes.extend_from_slice(piece.as_bytes())?;
     }
+    bytes.extend_from_slice(end.as_bytes())?;
     Ok(bytes)
 }
 
+// Each of these scripts has its status and text.
+fn have_status(alloc: Global, scripts: &[Long]) -> Result<bool, Fail> {
+    for (start, piece, times, end, status, text) in scripts {
+        let ran = run(alloc, &repeated(alloc, start, piece, *times, end)?)?;
+        if ran.status != *status || !ran.text.starts_with(text.as_bytes()) {
+            return Ok(false);
+        }
+    }
+    Ok(true)
+}
+
 #[test]
-fn a_long_line_is_no_script(rt: HostRuntime) -> Result<(), Fail> {
-    let alloc = rt.alloc();
-    let mut longest = repeated(alloc, HEADER, b"", 0)?;
-    longest.extend_from_slice(&repeated(alloc, b"1 0:0 stat /", b"a", 16_372)?)?;
-    longest.push(b'\n')?;
-    assert_eq!(rt; run(alloc, &longest)?.status, 0);
-    let mut long = repeated(alloc, HEADER, b"", 0)?;
-    long.extend_from_slice(&repeated(alloc, b"1 0:0 stat /", b"a", 16_373)?)?;
-    long.push(b'\n')?;
-    assert_eq!(rt; run(alloc, &long)?.status, 3);
+fn a_script_may_be_so_long(rt: HostRuntime) -> Result<(), Fail> {
+    assert!(rt; have_status(rt.alloc(), &LONG)?);
     Ok(())
 }
 
 #[test]
-fn too_many_calls_are_too_large(rt: HostRuntime) -> Result<(), Fail> {
-    let alloc = rt.alloc();
-    let many = repeated(alloc, HEADER, LOOK, 10_000)?;
-    assert_eq!(rt; run(alloc, &many)?.status, 0);
-    let too_many = repeated(alloc, HEADER, LOOK, 10_001)?;
-    let ran = run(alloc, &too_many)?;
-    assert_eq!(rt; ran.status, 7);
-    assert_eq!(rt; ran.text.as_slice(), b"falcon: too large\n".as_slice());
+fn a_script_may_have_so_many_calls(rt: HostRuntime) -> Result<(), Fail> {
+    assert!(rt; have_status(rt.alloc(), &MANY)?);
     Ok(())
 }
 
-#[test]
-fn too_many_bytes_are_too_large(rt: HostRuntime) -> Result<(), Fail> {
-    let alloc = rt.alloc();
-    let bytes = repeated(alloc, b"x", b"0123456789abcdef", 1_048_576)?;
-    assert_eq!(rt; run(alloc, &bytes)?.status, 7);
-    Ok(())
+// A run with a stream that fails: the words, which reads and which writes fail, how many bytes a write takes, and the status with the text.
+struct Failing {
+    words: &'static [&'static str],
+    reads: &'static [u64],
+    writes: &'static [u64],
+    status: u8,
+    text: &'static str,
+    is_traced: bool,
+}
+
+const FAILING: [Failing; 3] = [
+    // the second read fails, where each takes 20 bytes
+    Failing {
+        words: &["serial"],
+        reads: &[1],
+        writes: &[],
+        status: 4,
+        text: "falcon: read fault\n",
+        is_traced: false,
+    },
+    // the third write fails, where each takes 20 bytes
+    Failing {
+        words: &["serial"],
+        reads: &[],
+        writes: &[2],
+        status: 5,
+        text: "falcon-transcript 1\nnodes 1\nlanes 1\ntree",
+        is_traced: true,
+    },
+    // that the words are no usage can't be told, and has its status all the same
+    Failing {
+        words: &[],
+        reads: &[],
+        writes: &[0],
+        status: 2,
+        text: "",
+        is_traced: false,
+    },
+];
+
+// A run of the script without calls.
+fn run_failing(alloc: Global, failing: &Failing) -> Result<Ran, Fail> {
+    let script = Vec::from_slice(alloc, HEADER.as_bytes())?;
+    let source = MemSource::new(script, 20, Vec::from_slice(alloc, failing.reads)?);
+    let sink = MemSink::new(alloc, 20, Vec::from_slice(alloc, failing.writes)?);
+    run_with(alloc, failing.words, source, sink)
 }
 
 #[test]
-fn a_read_fault_after_100_bytes(rt: HostRuntime) -> Result<(), Fail> {
-    let alloc = rt.alloc();
-    let mut failing = Vec::new(alloc);
-    failing.push(10)?;
-    let source = MemSource::new(repeated(alloc, HEADER, LOOK, 20)?, 10, failing);
-    let sink = MemSink::new(alloc, 65_536, Vec::new(alloc));
-    let ran = run_with(alloc, &["serial"], source, sink)?;
-    assert_eq!(rt; ran.status, 4);
-    assert_eq!(rt; ran.text.as_slice(), b"falcon: read fault\n".as_slice());
-    assert!(rt; !ran.is_traced);
-    Ok(())
-}
-
-#[test]
-fn a_sink_that_fails_at_its_third_put(rt: HostRuntime) -> Result<(), Fail> {
-    let alloc = rt.alloc();
-    let mut failing = Vec::new(alloc);
-    failing.push(2)?;
-    let sink = MemSink::new(alloc, 20, failing);
-    let ran = run_with(alloc, &["serial"], whole(alloc, HEADER)?, sink)?;
-    assert_eq!(rt; ran.status, 5);
-    assert_eq!(rt;
-        ran.text.as_slice(),
-        b"falcon-transcript 1\nnodes 1\nlanes 1\ntree 1"
-            .as_slice()
-            .split_at(40)
-            .0
-    );
-    assert!(rt; ran.is_traced);
-    Ok(())
-}
-
-#[test]
-fn a_sink_that_fails_at_once_keeps_the_status(rt: HostRuntime) -> Result<(), Fail> {
-    let alloc = rt.alloc();
-    let mut failing = Vec::new(alloc);
-    failing.push(0)?;
-    let sink = MemSink::new(alloc, 20, failing);
-    let ran = run_with(alloc, &[], whole(alloc, HEADER)?, sink)?;
-    assert_eq!(rt; ran.status, 2);
-    assert!(rt; ran.text.is_empty());
+fn a_stream_that_fails_has_its_status(rt: HostRuntime) -> Result<(), Fail> {
+    for failing in &FAILING {
+        let ran = run_failing(rt.alloc(), failing)?;
+        assert_eq!(rt; ran.status, failing.status);
+        assert_eq!(rt; str::from_utf8(&ran.text)?, failing.text);
+        assert_eq!(rt; ran.is_traced, failing.is_traced);
+    }
     Ok(())
 }

@@ -1,8 +1,9 @@
 use Rattle.std.proofs.Common.{sym, ap, ◌∙◌, subst}
 use Rattle.fal_node.specs.declared.patch.Patch.{Patch}
 use Rattle.fal_node.specs.Patch.{patched}
+use Rattle.fal_base.specs.declared.event.Actor.TheVariants.{Node}
 use Rattle.fal_story.specs.Clusters.{is_node}
-use Rattle.fal_story.specs.Pushing.{NodeMachine, node_number}
+use Rattle.fal_story.specs.Machines.{NodeMachine}
 use Rattle.book_runs.specs.Posts.{IsNodePost}
 use Rattle.book_runs.proofs.Nodes.{node_ready, node_may, node_owns, node_entered}
 use Rattle.book_runs.proofs.Kept.{nothing_entered}
@@ -31,4 +32,4 @@ returns-in-Ok-clause-post g c =
 pub returns-in-Err-clause-post : goal.returns-in-Err-clause-post
 returns-in-Err-clause-post g c =
     let post = subst (λ z. IsNodePost c.args.number z c.args.seat.now c.args.inbox.now) (sym c.ready.ensures.same) c.requires.post in
-    nothing_entered (λ config. is_node config c.args.number) (node_number c.args.number) (NodeMachine c.ready.new.self.state) c.args.seat.now c.enter.new.seat c.args.inbox.now post c.enter.ensures.same c.in-Err.ensures.err.2
+    nothing_entered (λ config. is_node config c.args.number) (Node c.args.number) (NodeMachine c.ready.new.self.state) c.args.seat.now c.enter.new.seat c.args.inbox.now post c.enter.ensures.same c.in-Err.ensures.err.2

@@ -1,7 +1,7 @@
 use Rattle.std.proofs.Common.{◌≤◌, ◌∙◌, rules, get_or, ⊎_elim, refl, sym, ap, subst, arith}
 use Rattle.std.specs.Prelude.{slice_get, slice_set}
 use Rattle.std.proofs.lemmas.Option.{same_Some, slice_get-get_or}
-use Rattle.fal_story.proofs.Lists.{slice_get_below, tells}
+use Rattle.fal_story.proofs.Lists.Grown.{slice_get_below, tells}
 use Rattle.fal_alone.specs.Queues.{QueueSeen}
 use Rattle.fal_alone.proofs.Places.{holds_set, set_same, set_other}
 use Rattle.fal_alone.proofs.queues.reserve.Goals as goal

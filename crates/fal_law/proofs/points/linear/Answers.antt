@@ -1,4 +1,4 @@
-use Rattle.fal_story.proofs.RunLaws.{legal_each_once, legal_linear, legal_listings}
+use Rattle.fal_story.proofs.Histories.RunLaws.{legal_each_once, legal_linear, legal_listings}
 use Rattle.fal_story.specs.Run.{transcript}
 use Rattle.fal_law.proofs.Histories.{legal_history}
 use Rattle.fal_law.proofs.points.linear.Goals as goal

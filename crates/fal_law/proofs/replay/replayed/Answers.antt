@@ -1,4 +1,4 @@
-use Rattle.fal_story.proofs.Replays.{legal_is_replayed}
+use Rattle.fal_story.proofs.Histories.Replays.{legal_is_replayed}
 use Rattle.fal_law.proofs.replay.replayed.Goals as goal
 
 pub returns : goal.returns

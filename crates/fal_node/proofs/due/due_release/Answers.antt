@@ -1,7 +1,7 @@
 use Rattle.std.proofs.Common.{map, filter, sym, ap, ◌∙◌}
 use Rattle.std.specs.List.{slice_get}
 use Rattle.fal_node.specs.declared.batch.Batch.{Batch}
-use Rattle.fal_node.specs.declared.event.NodeEvent.TheVariants.{Release}
+use Rattle.fal_node.specs.declared.event.OwnEvent.TheVariants.{Release}
 use Rattle.fal_node.specs.Due.{due_serves}
 use Rattle.fal_node.specs.Places.{place_in}
 use Rattle.fal_node.proofs.Dues.{found_or, place_on}

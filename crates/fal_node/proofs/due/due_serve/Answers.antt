@@ -1,5 +1,5 @@
 use Rattle.std.proofs.Common.{None, filter, sym, ap, ◌∙◌}
-use Rattle.fal_node.specs.declared.event.NodeEvent.TheVariants.{Serve}
+use Rattle.fal_node.specs.declared.event.OwnEvent.TheVariants.{Serve}
 use Rattle.fal_node.specs.declared.item.Item.{Item}
 use Rattle.fal_node.specs.Serve.{can_serve}
 use Rattle.fal_node.proofs.Dues.{found_or, place_last}

@@ -12,7 +12,7 @@ pub run_calls-requires-clause-row_calls : goal.run_calls-requires-clause-row_cal
 run_calls-requires-clause-row_calls c =
     let batches = c.node.inside.batches.items in
     let found = ap (λ xs. find (λ (batch : Batch). batch.number == c.args.number) xs) (sym c.deref.ensures.value) ∙ sym c.in-Some.ensures in
-    subst (λ xs. are_row_calls xs ≡ true) (sym c.as_slice.ensures) (found_batch batches c.args.number c.in-Some.batch.now found c.node.invariant.batch_calls)
+    subst (λ xs. are_row_calls xs ≡ true) (sym c.as_slice.ensures) (found_batch batches c.args.number c.in-Some.batch.now found c.node.invariant.batches_made.row_calls)
 
 pub run_calls-requires-clause-within : goal.run_calls-requires-clause-within
 unfolding executed

@@ -1,9 +1,10 @@
-use Rattle.std.proofs.Common.{◌≡◌, ◌+◌, ◌*◌, [], ◌∷◌, ◌++◌, sym, ap, ◌∙◌, arith}
+use Rattle.std.proofs.Common.{◌≡◌, ◌+◌, ◌<◌, ◌^◌, [], ◌∷◌, ◌++◌, sym, ap, ◌∙◌, subst, arith}
 use Rattle.fal_base.specs.declared.event.Note.TheVariants as note
 use Rattle.fal_exec.specs.declared.outcome.Change.TheVariants as change
-use Rattle.fal_node.specs.declared.letter.Letter.{Letter}
+use Rattle.fal_wire.specs.declared.letter.Letter.{Letter}
 use Rattle.fal_node.specs.Letters.{commits_in}
-use Rattle.fal_node.specs.Exec.{number_after, call_outcome, answer_letter, draws, noted_number, exec_as}
+use Rattle.fal_node.specs.Exec.{number_after, call_outcome, change_of, answer_letter, draws, drawn_by, noted_number, exec_as}
+use Rattle.fal_node.proofs.Numbers.{noted_alike, drawn_fits}
 use Rattle.fal_node.specs.Patch.{rows_changed}
 use Rattle.fal_node.proofs.Runs.{work_of, commits_in-push, run_keep, run_put, run_remove, exec_one_is}
 use Rattle.fal_node.proofs.exec.run_call.Goals as goal
@@ -14,6 +15,36 @@ answer_letter-requires c =
     let r = c.args.run.now in
     let os = c.outcome-outcome.ensures ∙ ap (λ cs. call_outcome n.number (rows_changed n.rows cs) (n.drawn + r.drawn) c.args.planned.now) c.deref.ensures.value in
     λ passes. c.requires.hop (sym os ∙ passes)
+
+pub outcome-outcome-requires-clause-number : goal.outcome-outcome-requires-clause-number
+outcome-outcome-requires-clause-number c =
+    let n = c.args.node.now.state in
+    let r = c.args.run.now in
+    let p = c.args.planned.now in
+    subst (λ cs. 0 < drawn_by p.call.op (change_of (call_outcome n.number (rows_changed n.rows cs) (n.drawn + r.drawn) p)) → number_after n.number (n.drawn + r.drawn) < 2 ^ 64) (sym c.deref.ensures.value) c.requires.number
+
+pub put_row-requires-clause-drawn : goal.put_row-requires-clause-drawn
+put_row-requires-clause-drawn c =
+    let n = c.args.node.now.state in
+    let r = c.args.run.now in
+    let p = c.args.planned.now in
+    let os = c.outcome-outcome.ensures ∙ ap (λ cs. call_outcome n.number (rows_changed n.rows cs) (n.drawn + r.drawn) p) c.deref.ensures.value in
+    let put_is : change_of (call_outcome n.number (rows_changed n.rows r.changes.items) (n.drawn + r.drawn) p) ≡ change.Put c.in-Put.inode = ap change_of (sym os) ∙ sym c.in-Put.ensures in
+    let number_fits = λ (draws : 0 < drawn_by p.call.op (change.Put c.in-Put.inode)). c.requires.number (subst (λ ch. 0 < drawn_by p.call.op ch) (sym put_is) draws) in
+    let fits = drawn_fits p.call.op c.in-Put.inode n.number n.drawn r.drawn number_fits c.requires.fits in
+    omega arith
+
+pub returns-in-Put-clause-fits : goal.returns-in-Put-clause-fits
+returns-in-Put-clause-fits c =
+    let n = c.args.node.now.state in
+    let r = c.args.run.now in
+    let p = c.args.planned.now in
+    let os = c.outcome-outcome.ensures ∙ ap (λ cs. call_outcome n.number (rows_changed n.rows cs) (n.drawn + r.drawn) p) c.deref.ensures.value in
+    let put_is : change_of (call_outcome n.number (rows_changed n.rows r.changes.items) (n.drawn + r.drawn) p) ≡ change.Put c.in-Put.inode = ap change_of (sym os) ∙ sym c.in-Put.ensures in
+    let number_fits = λ (draws : 0 < drawn_by p.call.op (change.Put c.in-Put.inode)). c.requires.number (subst (λ ch. 0 < drawn_by p.call.op ch) (sym put_is) draws) in
+    let fits = drawn_fits p.call.op c.in-Put.inode n.number n.drawn r.drawn number_fits c.requires.fits in
+    let drawn = c.in_ok-put_row-in-Put.ensures.drawn in
+    omega arith
 
 pub returns-in-Keep-clause-work : goal.returns-in-Keep-clause-work
 returns-in-Keep-clause-work c =
@@ -37,11 +68,10 @@ returns-in-Put-clause-work c =
     let put = c.in_ok-put_row-in-Put.ensures in
     let ls = put.letters ∙ c.in_ok-push.ensures.items ∙ ap (λ (l : Letter). r.letters.items ++ l ∷ []) c.in_ok-letter.ensures in
     let os = c.outcome-outcome.ensures ∙ ap (λ cs. call_outcome n.number (rows_changed n.rows cs) (n.drawn + r.drawn) p) c.deref.ensures.value in
-    let d : c.node.inside.drawn ≡ n.drawn = ap (λ s. s.state.drawn) c.node.view_is in
-    let near : c.from.result ≡ c.node.inside.number = omega arith in
-    let m : c.from.result ≡ n.number = near ∙ ap (λ s. s.state.number) c.node.view_is in
-    let fresh : 256 * (c.node.inside.drawn + r.drawn + 1) + c.from.result ≡ number_after n.number (n.drawn + r.drawn) = λ i. 256 * (d i + r.drawn + 1) + m i in
-    let ns = put.notes ∙ ap (λ x. r.notes.items ++ note.Commit p.call.id.client p.call.id.seq (noted_number p.call.op x) ∷ []) fresh in
+    let put_is : change_of (call_outcome n.number (rows_changed n.rows r.changes.items) (n.drawn + r.drawn) p) ≡ change.Put c.in-Put.inode = ap change_of (sym os) ∙ sym c.in-Put.ensures in
+    let number_fits = λ (draws : 0 < drawn_by p.call.op (change.Put c.in-Put.inode)). c.requires.number (subst (λ ch. 0 < drawn_by p.call.op ch) (sym put_is) draws) in
+    let fresh = noted_alike p.call.op c.in-Put.inode c.next_number-fresh.result (number_after n.number (n.drawn + r.drawn)) (λ draws. c.next_number-fresh.ensures (number_fits draws)) in
+    let ns = put.notes ∙ ap (λ x. r.notes.items ++ note.Commit p.call.id.client p.call.id.seq x ∷ []) fresh in
     let same : work_of n c.put_row.new.run.batch c.put_row.new.run.changes.items c.put_row.new.run.drawn c.put_row.new.run.letters.items c.put_row.new.run.notes.items
     ≡ work_of n r.batch (r.changes.items ++ record { key = p.last; change = change.Put c.in-Put.inode } ∷ []) (r.drawn + draws p.call.op) (r.letters.items ++ answer_letter p.call r.commits out ∷ [])
     (r.notes.items ++ note.Commit p.call.id.client p.call.id.seq (noted_number p.call.op (number_after n.number (n.drawn + r.drawn))) ∷ [])

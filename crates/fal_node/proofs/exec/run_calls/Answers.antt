@@ -1,4 +1,4 @@
-use Rattle.std.proofs.Common.{sym, ap, ◌∙◌, subst}
+use Rattle.std.proofs.Common.{◌≡◌, sym, ap, ◌∙◌, subst, arith}
 use Rattle.fal_node.specs.Letters.{commits_in}
 use Rattle.fal_node.specs.Exec.{exec_all}
 use Rattle.fal_node.specs.Runs.{run_work}
@@ -17,6 +17,10 @@ loop-planned-init c =
       row_calls = c.requires.row_calls;
       commits = e.commits ∙ ap commits_in (sym e.notes);
       batch = e.batch;
+      fits =
+          let here : c.node.inside.drawn ≡ n.drawn = ap (λ s. s.state.drawn) c.node.view_is in
+          let fits = e.fits in
+          omega arith;
     }
 
 pub run_call-requires-clause-number : goal.run_call-requires-clause-number

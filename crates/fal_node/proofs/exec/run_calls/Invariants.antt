@@ -1,4 +1,4 @@
-use Rattle.std.proofs.Common.{◌≡◌, IsTrue, length}
+use Rattle.std.proofs.Common.{◌≡◌, ◌+◌, ◌<◌, ◌^◌, IsTrue, length}
 use Rattle.fal_node.specs.Letters.{begun, commits_in}
 use Rattle.fal_node.specs.Exec.{exec_all, with_executed}
 use Rattle.fal_node.specs.Runs.{run_work}
@@ -11,6 +11,7 @@ invariant-loop-planned l = record {
   row_calls : IsTrue (are_row_calls l.rest);
   commits : l.run.commits ≡ commits_in l.run.notes.items;
   batch : l.run.batch ≡ l.batch;
+  fits : l.node.state.drawn + l.run.drawn < 2 ^ 64;
 }
 
 abbrev pub decreases-loop-planned : goal.decreases-loop-planned

@@ -3,7 +3,7 @@ use Rattle.std.specs.List.{All}
 use Rattle.std.proofs.lemmas.List.Elements.{All-head}
 use Rattle.fal_wait.specs.Waiting.{count_to}
 use Rattle.fal_wire.specs.Messages.{Fits}
-use Rattle.fal_node.specs.declared.letter.Letter.{Letter}
+use Rattle.fal_wire.specs.declared.letter.Letter.{Letter}
 use Rattle.fal_node.specs.Gather.{ask_letter}
 use Rattle.fal_node.specs.Sends.{sending_letters}
 use Rattle.fal_node.proofs.Gathered.{ask_number}

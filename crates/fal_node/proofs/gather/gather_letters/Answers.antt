@@ -2,7 +2,7 @@ use Rattle.std.proofs.Common.{◌++◌, List, sym, ap, ◌∙◌, subst, append_
 use Rattle.std.specs.List.{All}
 use Rattle.fal_wait.specs.Waiting.{count_to}
 use Rattle.fal_wire.specs.Messages.{Fits}
-use Rattle.fal_node.specs.declared.letter.Letter.{Letter}
+use Rattle.fal_wire.specs.declared.letter.Letter.{Letter}
 use Rattle.fal_node.specs.Gather.{gather_letters}
 use Rattle.fal_node.specs.Sends.{sending_letters}
 use Rattle.fal_node.proofs.Gathered.{gather_letters-cons, all_back}

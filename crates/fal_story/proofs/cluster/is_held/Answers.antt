@@ -1,7 +1,7 @@
 use Rattle.std.proofs.Common.{◌↔◌, IsTrue, List, ℕ, sym, subst}
 use Rattle.fal_base.specs.declared.path.PathArg.{PathArg}
 use Rattle.fal_wire.specs.Names.{path_field}
-use Rattle.fal_story.proofs.Fitting.{IsHeld, good_held}
+use Rattle.fal_story.proofs.Ranges.Fitting.{IsHeld, good_held}
 use Rattle.fal_story.proofs.cluster.is_held.Goals as goal
 
 pub returns-then-rest : goal.returns-then-rest

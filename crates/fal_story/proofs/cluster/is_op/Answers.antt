@@ -1,6 +1,6 @@
 use Rattle.std.proofs.Common.{◌↔◌, IsTrue, sym, subst}
 use Rattle.fal_base.specs.declared.op.Op.{Op}
-use Rattle.fal_story.proofs.Fitting.{CanServe, access_is, as_good, create_is, mkdir_is, stat_is, truncate_is, unlink_is}
+use Rattle.fal_story.proofs.Ranges.Fitting.{CanServe, access_is, as_good, create_is, mkdir_is, stat_is, truncate_is, unlink_is}
 use Rattle.fal_story.proofs.cluster.is_op.Goals as goal
 
 pub returns-in-Mkdir : goal.returns-in-Mkdir

@@ -1,5 +1,5 @@
 use Rattle.std.proofs.Common.{sym, ◌∙◌}
-use Rattle.fal_story.proofs.Fitting.{path_fits, path_passes}
+use Rattle.fal_story.proofs.Ranges.Fitting.{path_fits, path_passes}
 use Rattle.fal_story.proofs.cluster.is_path.Goals as goal
 
 pub returns-then-is_short : goal.returns-then-is_short

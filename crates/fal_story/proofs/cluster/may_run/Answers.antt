@@ -1,7 +1,7 @@
 use Rattle.std.proofs.Common.{◌≡◌, List, true, sym, subst, ◌∙◌}
 use Rattle.std.specs.Prelude.{length, nat_le, sum_by}
 use Rattle.fal_base.specs.declared.call.Call.{Call}
-use Rattle.fal_story.proofs.Fitting.{at_most}
+use Rattle.fal_story.proofs.Ranges.Fitting.{at_most}
 use Rattle.fal_story.proofs.cluster.may_run.Goals as goal
 
 pub returns-else-has_few_calls : goal.returns-else-has_few_calls

@@ -1,6 +1,6 @@
 use Rattle.std.proofs.Common.{◌+◌, ◌-◌, ◌/◌, ◌<◌, sym, subst, arith}
 use Rattle.fal_base.specs.declared.event.Envelope.{Envelope}
-use Rattle.fal_story.proofs.Orders.{arrived_past}
+use Rattle.fal_story.proofs.Histories.Orders.{arrived_past}
 use Rattle.fal_story.proofs.inbox.place_from.Goals as goal
 
 pub loop-low-preserved-then-sent-middle : goal.loop-low-preserved-then-sent-middle

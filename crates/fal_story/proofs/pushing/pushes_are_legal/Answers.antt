@@ -1,4 +1,4 @@
-use Rattle.fal_story.proofs.Pushed.{sound_is_legal, pushed_is_next, legal_sent, legal_commits}
+use Rattle.fal_story.proofs.Histories.Pushed.{sound_is_legal, pushed_is_next, legal_sent, legal_commits}
 use Rattle.fal_story.proofs.pushing.pushes_are_legal.Goals as goal
 
 pub returns-clause-runs : goal.returns-clause-runs

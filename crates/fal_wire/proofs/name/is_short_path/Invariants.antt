@@ -1,5 +1,5 @@
 use Rattle.std.proofs.Common.{◌≡◌, ◌≤◌, take}
-use Rattle.fal_wire.specs.Names.{path_bytes}
+use Rattle.fal_base.specs.Paths.{path_bytes}
 use Rattle.fal_wire.proofs.name.is_short_path.Given as goal
 
 abbrev pub invariant-loop-name : goal.invariant-loop-name

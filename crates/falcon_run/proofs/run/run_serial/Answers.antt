@@ -5,16 +5,16 @@ use Rattle.falcon_run.proofs.run.run_serial.Goals as goal
 
 pub run_script-requires-clause-cluster : goal.run_script-requires-clause-cluster
 run_script-requires-clause-cluster g c =
-    let gave = c.in-Ok.ensures.reading.reads in
+    let gave = c.in-Ok.ensures.reading.gives in
     script_may_run c.in-Ok.script (script_in_range gave.0 c.in-Ok.script gave.4) gave.5
 
 pub run_script-requires-clause-range : goal.run_script-requires-clause-range
-run_script-requires-clause-range g c = let gave = c.in-Ok.ensures.reading.reads in script_in_range gave.0 c.in-Ok.script gave.4
+run_script-requires-clause-range g c = let gave = c.in-Ok.ensures.reading.gives in script_in_range gave.0 c.in-Ok.script gave.4
 
 pub returns-in-Ok-clause-memory : goal.returns-in-Ok-clause-memory
 returns-in-Ok-clause-memory g c is =
     run_wants c.in-Ok.script (g.S.Source.left c.args.source.now) (g.S.Source.left c.read_script.new.source) (g.K.Sink.holds c.args.sink.now) (g.K.Sink.holds c.run_script.new.sink) c.run_script.new.trace.config
-    c.run_script.new.trace.events.items c.in-Ok.ensures.reading.reads c.read_script.ensures.reading.lost (c.run_script.ensures.memory is)
+    c.run_script.new.trace.events.items c.in-Ok.ensures.reading.gives c.read_script.ensures.reading.lost (c.run_script.ensures.memory is)
 
 pub returns-in-Err-OutOfMemory-clause-memory : goal.returns-in-Err-OutOfMemory-clause-memory
 returns-in-Err-OutOfMemory-clause-memory g c is =

@@ -17,7 +17,7 @@ returns-in-Some c =
     let front = c.split_at.ensures.front ∙ (λ i. take (count i) (c.deref.ensures.value i)) in
     let first = sym c.in-Some.is ∙ c.first_of_lanes.ensures ∙ ap (λ qs. slice_get (all_gets 1 qs) 0) front in
     first_front (all_gets 1 (lane_queues clients queues)) (all_node_events 0 (node_queues clients queues) nodes) c.in-Some.event first
-    ∙ ap (λ events. slice_get events 0) (replies_are inside.book.told.config inside.book.told.events clients nodes queues c.self.invariant)
+    ∙ ap (λ events. slice_get events 0) (replies_are inside.book.told.config inside.book.told.events clients nodes queues c.self.invariant c.legal.ensures)
     ∙ ap (λ (told : Told). first_reply told.config told.events) c.self.view_is
 
 pub returns-in-None : goal.returns-in-None
@@ -32,5 +32,5 @@ returns-in-None c =
     let none = sym c.in-None.is ∙ c.first_of_lanes.ensures ∙ ap (λ qs. slice_get (all_gets 1 qs) 0) front in
     c.first_of_nodes.ensures ∙ (λ i. slice_get (all_node_events 0 (back i) (c.deref-in-None.ensures.value i)) 0)
     ∙ sym (first_back (all_gets 1 (lane_queues clients queues)) (all_node_events 0 (node_queues clients queues) nodes) none)
-    ∙ ap (λ events. slice_get events 0) (replies_are inside.book.told.config inside.book.told.events clients nodes queues c.self.invariant)
+    ∙ ap (λ events. slice_get events 0) (replies_are inside.book.told.config inside.book.told.events clients nodes queues c.self.invariant c.legal.ensures)
     ∙ ap (λ (told : Told). first_reply told.config told.events) c.self.view_is

@@ -16,5 +16,5 @@ returns c =
     c.in_ok-push_nodes.ensures
     ∙ ap (λ es. es ++ all_node_events 0 c.split_at.result.1.now c.deref-3.result.now) (c.in_ok-push_lanes.ensures ∙ ap (λ es. es ++ all_lane_events 1 c.split_at.result.0.now c.deref-2.result.now) c.new-events.ensures.items)
     ∙ (λ i. all_lane_events 1 (front i) (c.deref-2.ensures.value i) ++ all_node_events 0 (back i) (c.deref-3.ensures.value i))
-    ∙ fresh_are inside.book.told.config inside.book.told.events clients inside.nodes.items inside.queues.items c.self.invariant
+    ∙ fresh_are inside.book.told.config inside.book.told.events clients inside.nodes.items inside.queues.items c.self.invariant c.legal.ensures
     ∙ ap (λ (told : Told). fresh_at told.config (world_of told) (came told.events)) c.self.view_is

@@ -1,7 +1,7 @@
 use Rattle.std.proofs.Common.{◌∙◌, ap, sym}
 use Rattle.std.specs.Prelude.{slice_get}
 use Rattle.std.specs.List.{remove}
-use Rattle.fal_story.proofs.Dues.{without_at, without_none}
+use Rattle.fal_story.proofs.Drain.Dues.{without_at, without_none}
 use Rattle.fal_alone.specs.Queues.{QueueSeen}
 use Rattle.fal_alone.proofs.queue.Queue.take.Goals as goal
 

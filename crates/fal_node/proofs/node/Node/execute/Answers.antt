@@ -1,11 +1,12 @@
-use Rattle.std.proofs.Common.{◌≡◌, true, sym, subst}
-use Rattle.fal_node.specs.Sound.{are_row_batches}
+use Rattle.std.proofs.Common.{sym, subst}
+use Rattle.fal_node.specs.Sound.{AreBatches}
 use Rattle.fal_node.proofs.Sound.{batches_executed}
 use Rattle.fal_node.proofs.node.Node.execute.Goals as goal
 
 pub invariant_of-self : goal.invariant_of-self
 invariant_of-self c = record {
   calls_waiting = c.self.invariant.calls_waiting;
-  batch_calls = subst (λ batches. are_row_batches batches ≡ true) (sym c.mark_batch.ensures) (batches_executed c.self.inside.batches.items c.args.batch c.self.invariant.batch_calls);
-  holders = c.self.invariant.holders;
+  items_kept = c.self.invariant.items_kept;
+  batches_made = subst (λ batches. AreBatches batches c.self.inside.locks.table c.self.inside.batches_numbered) (sym c.mark_batch.ensures)
+      (batches_executed c.self.inside.batches.items c.self.inside.locks.table c.self.inside.batches_numbered c.args.batch c.self.invariant.batches_made);
 }

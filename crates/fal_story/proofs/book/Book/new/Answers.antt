@@ -1,4 +1,4 @@
-use Rattle.fal_story.proofs.Books.{book_begins}
+use Rattle.fal_story.proofs.Histories.Books.{book_begins}
 use Rattle.fal_story.proofs.book.Book.new.Goals as goal
 
 -- src/book.rt:63:5

@@ -2,8 +2,8 @@ use Rattle.std.proofs.Common.{◌∙◌, ap, subst, sym, rules, count_by}
 use Rattle.fal_story.specs.Rooms.{is_commit_note}
 use Rattle.fal_story.specs.Run.{Follows}
 use Rattle.fal_story.specs.Told.{Seen}
-use Rattle.fal_story.proofs.Books.{book_stepped}
-use Rattle.fal_story.proofs.Noted.{noted_commits}
+use Rattle.fal_story.proofs.Histories.Books.{book_stepped}
+use Rattle.fal_story.proofs.Trees.Noted.{noted_commits}
 use Rattle.fal_story.proofs.book.Book.put.Goals as goal
 
 pub invariant_of-self : goal.invariant_of-self

@@ -1,0 +1,20 @@
+use Rattle.std.proofs.Common.{ap, sym, ◌∙◌, rules}
+use Rattle.fal_node.specs.State.{NodeState}
+use Rattle.fal_node.specs.Step.{node_step}
+use Rattle.fal_story.specs.Machines.{node_made}
+use Rattle.fal_alone.proofs.Roles.{node_prepared, none_node, node_none}
+use Rattle.fal_alone.proofs.role.NodeRole.prepare.Goals as goal
+
+pub returns-clause-ok : goal.returns-clause-ok
+returns-clause-ok c =
+    ap (λ (x : NodeState). node_made (node_step x c.args.own.now)) (sym c.ready.ensures.same)
+    ∙ node_prepared c.ready.new.self (node_step c.ready.new.self.state c.args.own.now) c.in_ok-prepared.prepared c.take_outputs-outputs.new.self.patch c.take_outputs-outputs.result
+    c.in_ok-prepared.ensures.ok c.take_outputs-outputs.ensures.patch c.take_outputs-outputs.ensures.outputs
+
+pub returns-clause-refused : goal.returns-clause-refused
+returns-clause-refused c = (λ is. absurd (cc), λ none. let wrong = c.in_ok-prepared.ensures.refused.1 (node_none _ none) in absurd (cc))
+
+pub returns-in_err-prepared-clause-refused : goal.returns-in_err-prepared-clause-refused
+returns-in_err-prepared-clause-refused c =
+    let there = c.in_err-prepared.ensures.refused in
+    (λ is. none_node _ (there.0 (search rules)), λ none. let refused = there.1 (node_none _ none) in search rules)

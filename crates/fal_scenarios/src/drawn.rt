@@ -1,0 +1,83 @@
+//! Random calls and events, the same ones for the same seed.
+
+use crate::broken::Broken;
+use crate::scene::Scene;
+use fal_alone::Cluster;
+use fal_base::{Actor, Call, Cred, Event, Op, PathArg};
+use rand_core::utils::NextWord;
+use rand_pcg::Lcg64Xsh32;
+use std::alloc::Global;
+
+pub fn source_of(seed: u64) -> Lcg64Xsh32 {
+    Lcg64Xsh32::new(seed, 54)
+}
+
+fn draw(source: &mut Lcg64Xsh32, below: u32) -> u32 {
+    source.next_word().checked_rem(below).unwrap_or(0)
+}
+
+fn drawn_path(drawn: u32) -> &'static [u8] {
+    match drawn {
+        0 => b"/a",
+        1 => b"/b",
+        2 => b"/a/b",
+        3 => b"/a/c",
+        4 => b"/b/a",
+        _ => b"/a/b/x",
+    }
+}
+
+/// A call on one of few paths, now and then by another user than root.
+pub fn drawn_call(alloc: Global, source: &mut Lcg64Xsh32) -> Result<Call, Broken> {
+    let (uid, gid) = if draw(source, 4) == 0 {
+        (1000, 100)
+    } else {
+        (0, 0)
+    };
+    let path = PathArg::read(alloc, drawn_path(draw(source, 6)))?;
+    let op = match draw(source, 6) {
+        0 | 1 => Op::Mkdir { path, mode: 0o755 },
+        2 => Op::Create { path, mode: 0o640 },
+        3 => Op::Truncate { path, size: 10 },
+        4 => Op::Unlink { path },
+        _ => Op::Stat { path },
+    };
+    Ok(Call {
+        cred: Cred { uid, gid },
+        op,
+    })
+}
+
+// The delivery of an envelope that was sent.
+fn delivery(cluster: &Cluster, place: usize) -> Option<Event> {
+    let env = place as u64;
+    match cluster.book().sent().get(place)?.to {
+        Actor::Client(lane) => Some(Event::Get { lane, env }),
+        Actor::Node(node) => Some(Event::Deliver { node, env }),
+        Actor::Coord => Some(Event::Hear { env }),
+    }
+}
+
+// A fresh event, or one time in four the delivery of any envelope, which may have come already.
+fn drawn_event(cluster: &Cluster, source: &mut Lcg64Xsh32) -> Result<Option<Event>, Broken> {
+    let any = draw(source, 4) == 0;
+    let place = draw(source, 65_536) as usize;
+    if any {
+        let sent = cluster.book().sent().len();
+        return Ok(delivery(cluster, place.checked_rem(sent).unwrap_or(0)));
+    }
+    let fresh = cluster.fresh()?;
+    let place = place.checked_rem(fresh.len()).unwrap_or(0);
+    Ok(fresh.get(place).copied())
+}
+
+/// So many random events.
+pub fn events(scene: &mut Scene, count: u64, seed: u64) -> Result<(), Broken> {
+    let mut source = source_of(seed);
+    for _ in 0..count {
+        if let Some(event) = drawn_event(&scene.cluster, &mut source)? {
+            scene.cluster.step(event)?;
+        }
+    }
+    Ok(())
+}

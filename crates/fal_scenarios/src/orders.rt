@@ -1,0 +1,62 @@
+//! Orders of events.
+
+use crate::running::run_all;
+use std::test::Fail;
+
+const TEXTS: [&str; 3] = [
+    "\
+# One call, event by event.
+nodes 3
+lanes 1
+call 1 0:0 mkdir /a 755
+send lane 1
+deliver node 1 Call
+gather node 1
+deliver node 0 FetchAsk
+serve node 0
+deliver node 1 FetchGot
+gather node 1
+exec node 1
+release node 1
+get lane 1 Reply
+quiet
+expect
+  sent 1.1 0:0 mkdir /a 755
+  commit 1.1 257
+  answered 1.1 0 ok
+",
+    "\
+# Two creates of one name: the one that comes first is made.
+nodes 3
+lanes 2
+batch 4
+call 1 0:0 create /a 600
+call 2 0:0 create /a 644
+send lane 1
+send lane 2
+deliver node 1 Call
+deliver node 1 Call
+finish
+expect
+  sent 1.1 0:0 create /a 600
+  sent 2.1 0:0 create /a 644
+  commit 1.1 257
+  answered 1.1 0 ok
+  answered 2.1 1 EEXIST
+",
+    "\
+# Random events, and after them all calls that are left.
+nodes 3
+lanes 2
+batch 4
+calls 60 from 11
+events 300 from 12
+finish
+quiet
+",
+];
+
+#[test]
+fn orders_of_events(rt: HostRuntime) -> Result<(), Fail> {
+    run_all(&rt, rt.alloc(), &TEXTS)
+}

@@ -1,0 +1,110 @@
+-- Where each call under way is found: on its way to a node, at a node, or answered and on its way back.
+use Rattle.std.proofs.Common.{◌≡◌, ◌≢◌, ◌⊎◌, ⊎_elim, ℕ, ◌<◌, ◌≤◌, Bool, true, false, List, ◌++◌, Some, None, sym, subst}
+use Rattle.std.specs.Prelude.{slice_get}
+use Rattle.fal_base.specs.declared.call.CallId.{CallId}
+use Rattle.fal_base.specs.declared.call.CallRec.{CallRec}
+use Rattle.fal_base.specs.declared.entry.Entry.{Entry}
+use Rattle.fal_base.specs.declared.entry.Entry.TheVariants as entry
+use Rattle.fal_base.specs.declared.event.Actor.TheVariants.{Client, Node}
+use Rattle.fal_base.specs.declared.reply.Reply.{Reply}
+use Rattle.fal_client.specs.declared.current.Current.{Current}
+use Rattle.fal_client.specs.State.{ClientState}
+use Rattle.fal_client.specs.Step.{id_at}
+use Rattle.fal_node.specs.declared.batch.Batch.{Batch}
+use Rattle.fal_node.specs.declared.batch.BatchCall.{BatchCall}
+use Rattle.fal_node.specs.State.{NodeState}
+use Rattle.fal_base.specs.declared.mark.Mark.{Mark}
+use Rattle.fal_wait.specs.declared.waiting_call.WaitingCall.{WaitingCall}
+use Rattle.fal_base.specs.Marks.{mark_of, last_mark, is_newer}
+use Rattle.fal_wire.specs.declared.message.Message.TheVariants as message
+use Rattle.fal_story.proofs.Events.Shows.{calls_in, posts_of}
+use Rattle.fal_story.proofs.Lists.Each.{Each, Apart}
+use Rattle.fal_story.proofs.Lists.Grown.{tells, put_other, put_same, slice_get_front}
+use Rattle.fal_story.proofs.Lists.Members.{IsIn}
+use Rattle.fal_story.proofs.View.{Post, IsPosted, post}
+use Rattle.fal_story.specs.World.{World, put}
+
+-- the call with this id is under way
+pub data IsUnder (posts : List Post) (came : ℕ → Bool) (nodes : ℕ → NodeState) (id : CallId) : Type 0 where
+  Asked : (k p n : ℕ) (call : CallRec) → IsPosted posts k (Node n) p (message.Call call) → came k ≡ false → call.id ≡ id
+      → is_newer (mark_of id) (last_mark (nodes n).waiting.last id.client) ≡ true → IsUnder posts came nodes id
+  Waiting : (n : ℕ) (x : WaitingCall) → IsIn x (nodes n).waiting.calls → x.call.id ≡ id → IsUnder posts came nodes id
+  Planned : (n : ℕ) (x : BatchCall) → IsIn x (calls_in (nodes n).batches) → x.call.id ≡ id → IsUnder posts came nodes id
+  Answered : (k p : ℕ) (reply : Reply) → IsPosted posts k (Client id.client) p (message.Reply id reply) → came k ≡ false → IsUnder posts came nodes id
+
+-- the transcript answers the call
+abbrev pub IsTold : List Entry → ℕ → ℕ → Type 0
+IsTold entries l s = (i : ℕ) × ((point : ℕ) × ((reply : Reply) × (slice_get entries i ≡ Some (entry.Answered l s point reply))))
+
+-- the call was sent and is no longer under way
+abbrev pub IsOver : ClientState → ℕ → Type 0
+IsOver c s = (s < c.seq) ⊎ ((s ≡ c.seq) × (c.current ≡ None))
+
+-- batches differ by their numbers, and the next number is new
+pub record AreNumbered (batches : List Batch) (next : ℕ) : Type 0 where
+  pub apart : Apart (λ (b : Batch). b.number) batches
+  pub below : Each (λ (b : Batch). b.number < next) batches
+
+abbrev pub IsNumbered : NodeState → Type 0
+IsNumbered x = AreNumbered x.batches x.batches_numbered
+
+pub record IsFollowed (w : World) (came : ℕ → Bool) : Type 0 where
+  pub busy : (l : ℕ) (current : Current) → (w.clients l).current ≡ Some current → IsUnder (posts_of w.envelopes) came w.nodes (id_at l (w.clients l).seq 1)
+  pub over : (l s : ℕ) → 0 < s → IsOver (w.clients l) s → IsTold w.entries l s
+  pub marks : (n l : ℕ) (m : Mark) → last_mark (w.nodes n).waiting.last l ≡ Some m → m.seq ≤ (w.clients l).seq
+  pub batches : (n : ℕ) → IsNumbered (w.nodes n)
+
+pub told_more : (entries more : List Entry) (l s : ℕ) → IsTold entries l s → IsTold (entries ++ more) l s
+told_more entries more l s t = (t.0, (t.1.0, (t.1.1.0, slice_get_front entries more t.0 _ t.1.1.1)))
+
+-- records are sent, and none comes but to this client, of whose call it is not
+pub under_more : (posts more : List Post) (came later : ℕ → Bool) (nodes : ℕ → NodeState) (id : CallId) → ((k n p : ℕ) (call : CallRec) → IsPosted posts k (Node n) p (message.Call call) → came k ≡ false → later k ≡ false)
+    → ((k p : ℕ) (reply : Reply) → IsPosted posts k (Client id.client) p (message.Reply id reply) → came k ≡ false → later k ≡ false) → IsUnder posts came nodes id → IsUnder (posts ++ more) later nodes id
+under_more posts more came later nodes id calls replies (Asked k p n call at fresh is newer) = Asked k p n call (slice_get_front posts more k _ at) (calls k n p call at fresh) is newer
+under_more posts more came later nodes id calls replies (Waiting n x at is) = Waiting n x at is
+under_more posts more came later nodes id calls replies (Planned n x at is) = Planned n x at is
+under_more posts more came later nodes id calls replies (Answered k p reply at fresh) = Answered k p reply (slice_get_front posts more k _ at) (replies k p reply at fresh)
+
+-- a node's event: the calls elsewhere stay where they are
+pub under_node : (posts more : List Post) (came later : ℕ → Bool) (nodes : ℕ → NodeState) (n : ℕ) (x : NodeState) (id : CallId)
+    → ((k : ℕ) (y : Post) → slice_get posts k ≡ Some y → y.to ≢ Node n → came k ≡ false → later k ≡ false)
+    → ((k p : ℕ) (call : CallRec) → IsPosted posts k (Node n) p (message.Call call) → came k ≡ false → call.id ≡ id → is_newer (mark_of id) (last_mark (nodes n).waiting.last id.client) ≡ true
+    → IsUnder (posts ++ more) later (put nodes n x) id)
+    → ((y : WaitingCall) → IsIn y (nodes n).waiting.calls → y.call.id ≡ id → IsUnder (posts ++ more) later (put nodes n x) id)
+    → ((y : BatchCall) → IsIn y (calls_in (nodes n).batches) → y.call.id ≡ id → IsUnder (posts ++ more) later (put nodes n x) id)
+    → IsUnder posts came nodes id → IsUnder (posts ++ more) later (put nodes n x) id
+under_node posts more came later nodes n x id others asked waiting planned (Asked k p m call at fresh is newer) =
+    ⊎_elim
+    (λ t.
+    let at_n : IsPosted posts k (Node n) p (message.Call call) = subst (λ i. IsPosted posts k (Node i) p (message.Call call)) t.1 at in
+    asked k p call at_n fresh is (subst (λ i. is_newer (mark_of id) (last_mark (nodes i).waiting.last id.client) ≡ true) t.1 newer))
+    (λ t. Asked k p m call (slice_get_front posts more k _ at) (others k (post (Node m) p (message.Call call)) at (λ e. t.1 (same_node m n e)) fresh) is
+    (subst (λ (y : NodeState). is_newer (mark_of id) (last_mark y.waiting.last id.client) ≡ true) (sym (put_other nodes n x m t.1)) newer))
+    (tells m n)
+  where
+    same_node : (a b : ℕ) → Node a ≡ Node b → a ≡ b
+    same_node a b e = cc
+under_node posts more came later nodes n x id others asked waiting planned (Waiting m y at is) =
+    ⊎_elim
+    (λ t. waiting y (subst (λ i. IsIn y (nodes i).waiting.calls) t.1 at) is)
+    (λ t. Waiting m y (subst (λ (z : NodeState). IsIn y z.waiting.calls) (sym (put_other nodes n x m t.1)) at) is)
+    (tells m n)
+under_node posts more came later nodes n x id others asked waiting planned (Planned m y at is) =
+    ⊎_elim
+    (λ t. planned y (subst (λ i. IsIn y (calls_in (nodes i).batches)) t.1 at) is)
+    (λ t. Planned m y (subst (λ (z : NodeState). IsIn y (calls_in z.batches)) (sym (put_other nodes n x m t.1)) at) is)
+    (tells m n)
+under_node posts more came later nodes n x id others asked waiting planned (Answered k p reply at fresh) =
+    Answered k p reply (slice_get_front posts more k _ at) (others k (post (Client id.client) p (message.Reply id reply)) at (λ e. let wrong : Client id.client ≡ Node n = e in absurd (cc)) fresh)
+
+-- the call is now at this node
+pub waiting_now : (posts : List Post) (came : ℕ → Bool) (nodes : ℕ → NodeState) (n : ℕ) (x : NodeState) (id : CallId) (y : WaitingCall) → IsIn y x.waiting.calls → y.call.id ≡ id → IsUnder posts came (put nodes n x) id
+waiting_now posts came nodes n x id y at is = Waiting n y (subst (λ (z : NodeState). IsIn y z.waiting.calls) (sym (put_same nodes n x)) at) is
+
+pub planned_now : (posts : List Post) (came : ℕ → Bool) (nodes : ℕ → NodeState) (n : ℕ) (x : NodeState) (id : CallId) (y : BatchCall) → IsIn y (calls_in x.batches) → y.call.id ≡ id → IsUnder posts came (put nodes n x) id
+planned_now posts came nodes n x id y at is = Planned n y (subst (λ (z : NodeState). IsIn y (calls_in z.batches)) (sym (put_same nodes n x)) at) is
+
+pub asked_now : (posts more : List Post) (came : ℕ → Bool) (nodes : ℕ → NodeState) (n k p : ℕ) (x : NodeState) (id : CallId) (call : CallRec) → IsPosted posts k (Node n) p (message.Call call) → came k ≡ false → call.id ≡ id
+    → is_newer (mark_of id) (last_mark x.waiting.last id.client) ≡ true → IsUnder (posts ++ more) came (put nodes n x) id
+asked_now posts more came nodes n k p x id call at fresh is newer =
+    Asked k p n call (slice_get_front posts more k _ at) fresh is (subst (λ (z : NodeState). is_newer (mark_of id) (last_mark z.waiting.last id.client) ≡ true) (sym (put_same nodes n x)) newer)

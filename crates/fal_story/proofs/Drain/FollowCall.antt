@@ -1,0 +1,205 @@
+-- Each call under way is found after a call came to a node, or any record.
+use Rattle.std.proofs.Common.{◌≡◌, ◌≢◌, ⊎_elim, ℕ, zero, suc, ◌<◌, Bool, true, false, cond, List, [], ◌∷◌, ◌++◌, Some, None, Result, Ok, Err, is_some, IsTrue, refl, sym, ap, subst, ◌∙◌, arith}
+use Rattle.std.specs.Prelude.{slice_get}
+use Rattle.std.specs.List.{All}
+use Rattle.std.specs.Result.{result_ok}
+use Rattle.std.proofs.lemmas.Option.{same_Some}
+use Rattle.fal_base.specs.declared.call.CallId.{CallId}
+use Rattle.fal_base.specs.declared.call.CallRec.{CallRec}
+use Rattle.fal_base.specs.declared.call.Config.{Config}
+use Rattle.fal_base.specs.declared.event.Actor.TheVariants.{Node}
+use Rattle.fal_base.specs.declared.event.Envelope.{Envelope}
+use Rattle.fal_base.specs.declared.op.Op.{Op}
+use Rattle.fal_base.specs.declared.op.Op.TheVariants as op
+use Rattle.fal_base.specs.declared.path.PathArg.TheVariants.{Good, Bad}
+use Rattle.fal_client.specs.Step.{id_at}
+use Rattle.fal_exec.specs.RowCall.{row_names}
+use Rattle.fal_wire.specs.declared.letter.Letter.{Letter}
+use Rattle.fal_node.specs.Deliver.{admitted, take_call, take_message, take_read, delivered}
+use Rattle.fal_node.specs.Letters.{begun, is_asker}
+use Rattle.fal_node.specs.State.{NodeState, with_item}
+use Rattle.fal_node.specs.Step.{is_node}
+use Rattle.fal_base.specs.declared.mark.Mark.{Mark}
+use Rattle.fal_wait.specs.declared.waiting_call.WaitingCall.{WaitingCall}
+use Rattle.fal_base.specs.Marks.{mark_of, last_mark, is_newer}
+use Rattle.fal_wait.specs.Waiting.{fetch_of, with_call, is_new}
+use Rattle.fal_wire.specs.declared.fault.WireFault.{WireFault}
+use Rattle.fal_wire.specs.declared.message.Message.{Message}
+use Rattle.fal_wire.specs.declared.message.Message.TheVariants as message
+use Rattle.fal_wire.specs.Messages.{Fits, reading}
+use Rattle.fal_wire.specs.Names.{path_arg_field}
+use Rattle.fal_wire.specs.Ops.{op_field, path_and_mode, path_and_want, path_and_size}
+use Rattle.fal_story.proofs.Drain.Follow.{IsFollowed, under_node, waiting_now, planned_now, asked_now}
+use Rattle.fal_story.proofs.Drain.FollowDeliver.{coming_post, other_fresh, IsNoCall, plain_follows, settle_follows}
+use Rattle.fal_story.proofs.Drain.FollowNode.{node_follows}
+use Rattle.fal_story.proofs.Drain.Moving.{IsMoving}
+use Rattle.fal_story.proofs.Drain.MovingDeliver.{IsComing}
+use Rattle.fal_story.proofs.Drain.MovingGot.{node_of}
+use Rattle.fal_story.proofs.Drain.MovingServe.{After}
+use Rattle.fal_story.proofs.Events.Shows.{Ghost, Shows, posts_of}
+use Rattle.fal_story.proofs.Lists.Grown.{tells, put_other}
+use Rattle.fal_story.proofs.Lists.Joined.{in_last}
+use Rattle.fal_story.proofs.Lists.Members.{IsIn, in_front}
+use Rattle.fal_story.proofs.Lists.Newer.{mark_cases}
+use Rattle.fal_story.proofs.Phase.{Idle, Asked}
+use Rattle.fal_story.proofs.View.{Post, IsPosted, post}
+use Rattle.fal_story.specs.Clusters.{is_served}
+use Rattle.fal_story.specs.World.{World, put}
+
+-- ---- the call that comes is the one under way
+
+-- a served call that a record can hold has one good path
+row_some : (call : Op) → IsTrue (is_served call) → op_field.Fits call → is_some (row_names call) ≡ true
+unfolding op_field path_and_mode path_and_want path_and_size path_arg_field
+row_some (op.Mkdir (Good names) mode) served fits = refl
+row_some (op.Mkdir (Bad fault raw) mode) served fits = absurd (fits.0)
+row_some (op.Create (Good names) mode) served fits = refl
+row_some (op.Create (Bad fault raw) mode) served fits = absurd (fits.0)
+row_some (op.Stat (Good names)) served fits = refl
+row_some (op.Stat (Bad fault raw)) served fits = absurd fits
+row_some (op.Access (Good names) want) served fits = refl
+row_some (op.Access (Bad fault raw) want) served fits = absurd (fits.0)
+row_some (op.Truncate (Good names) size) served fits = refl
+row_some (op.Truncate (Bad fault raw) size) served fits = absurd (fits.0)
+row_some (op.Unlink (Good names)) served fits = refl
+row_some (op.Unlink (Bad fault raw)) served fits = absurd fits
+row_some other served fits = absurd (cc)
+
+-- a record that is newer is that of the call under way
+asked_by : (config : Config) (w : World) (n : ℕ) (h : Ghost) (e p : ℕ) (c : CallRec) → Shows config w h → IsPosted (posts_of w.envelopes) e (Node n) p (message.Call c) → is_new (w.nodes n).waiting c ≡ true
+    → (c ≡ h.call c.id.client) × (h.phase c.id.client ≡ Asked n)
+asked_by config w n h e p c s at newer = ⊎_elim (λ y. y) (λ old. absurd (cc)) (s.good.records.requests e n p c at)
+
+-- so it is one that a row decides, and has the number of its lane's last call
+row_by : (config : Config) (w : World) (n : ℕ) (h : Ghost) (c : CallRec) → Shows config w h → (c ≡ h.call c.id.client) × (h.phase c.id.client ≡ Asked n) → (is_some (row_names c.op) ≡ true) × (c.id.seq ≡ (w.clients c.id.client).seq)
+row_by config w n h c s is =
+    let l = c.id.client in
+    let busy : h.phase l ≢ Idle = (λ e. let wrong : Idle ≡ Asked n = sym e ∙ is.1 in absurd (cc)) in
+    let row = row_some (h.call l).op (s.good.lanes.under_way.served l busy) (s.good.lanes.under_way.fits l busy) in
+    let some : 0 < (w.clients l).seq = positive (w.clients l).seq (λ z. busy (s.good.lanes.under_way.started l z)) in
+    (subst (λ (d : CallRec). is_some (row_names d.op) ≡ true) (sym is.0) row, ap (λ (d : CallRec). d.id.seq) is.0 ∙ s.good.script.calls.number l some)
+  where
+    positive : (n : ℕ) → (n ≡ 0 → ⊥) → 0 < n
+    positive zero ne = absurd (ne refl)
+    positive (suc n) ne = omega arith
+
+same_posted : (posts : List Post) (e n p q : ℕ) (a b : CallRec) → IsPosted posts e (Node n) p (message.Call a) → IsPosted posts e (Node n) q (message.Call b) → a ≡ b
+same_posted posts e n p q a b x y = let m : Some (message.Call a) ≡ Some (message.Call b) = ap (λ (z : Post). z.message) (same_Some (post (Node n) p (message.Call a)) (post (Node n) q (message.Call b)) (sym x ∙ y)) in cc
+
+-- ---- the call is not taken
+
+-- it is none that is under way
+not_taken : (config : Config) (w : World) (came : ℕ → Bool) (n e p : ℕ) (x : Envelope) (call : CallRec) → IsFollowed w came → IsComing w n e x → IsPosted (posts_of w.envelopes) e (Node n) p (message.Call call)
+    → (is_new (w.nodes n).waiting call ≡ true → ⊥) → IsFollowed (After config w n (begun (w.nodes n))) (put came e true)
+not_taken config w came n e p x call f c at old =
+    let posts = posts_of w.envelopes in
+    let later = put came e true in
+    let node = w.nodes n in
+    node_follows config w came later n (begun node) (λ i y lt. absurd (omega arith)) f
+    (λ l current is under.
+    let id = id_at l (w.clients l).seq 1 in
+    under_node posts [] came later w.nodes n node id (other_fresh w came n e x c)
+    (λ i q d there fresh same newer.
+    ⊎_elim
+    (λ t.
+    let mine : d ≡ call = same_posted posts e n q p d call (subst (λ j. IsPosted posts j (Node n) q (message.Call d)) t.1 there) at in
+    absurd (old (subst (λ (y : CallRec). is_new node.waiting y ≡ true) mine (subst (λ j. is_newer (mark_of j) (last_mark node.waiting.last j.client) ≡ true) (sym same) newer))))
+    (λ t. asked_now posts [] later w.nodes n i q node id d there (put_other came e true i t.1 ∙ fresh) same newer)
+    (tells i e))
+    (λ y there same. waiting_now (posts ++ []) later w.nodes n node id y there same)
+    (λ y there same. planned_now (posts ++ []) later w.nodes n node id y there same)
+    under)
+    (f.marks n) (f.batches n)
+
+-- ---- the call is taken
+
+taken : (config : Config) (w : World) (came : ℕ → Bool) (n e p : ℕ) (x : Envelope) (h : Ghost) (call : CallRec) → Shows config w h → IsFollowed w came → IsComing w n e x
+    → IsPosted (posts_of w.envelopes) e (Node n) p (message.Call call) → is_new (w.nodes n).waiting call ≡ true → IsFollowed (After config w n (begun (record (w.nodes n) { waiting = with_call (w.nodes n).waiting call }))) (put came e true)
+unfolding with_call
+taken config w came n e p x h call s f c at newest =
+    let posts = posts_of w.envelopes in
+    let later = put came e true in
+    let node = w.nodes n in
+    let list = node.waiting in
+    let after : NodeState = record node { waiting = with_call list call } in
+    let mine = asked_by config w n h e p call s at newest in
+    let here : WaitingCall = record { ticket = list.tickets; call = call; fetch = None } in
+    let at_end : IsIn here after.waiting.calls = in_last list.calls here in
+    node_follows config w came later n (begun after) (λ i y lt. absurd (omega arith)) f
+    (λ l current is under.
+    let id = id_at l (w.clients l).seq 1 in
+    under_node posts [] came later w.nodes n after id (other_fresh w came n e x c)
+    (λ i q d there fresh same newer.
+    ⊎_elim
+    (λ t. waiting_now (posts ++ []) later w.nodes n after id here at_end
+    (ap (λ (y : CallRec). y.id) (sym (same_posted posts e n q p d call (subst (λ j. IsPosted posts j (Node n) q (message.Call d)) t.1 there) at)) ∙ same))
+    (λ t.
+    ⊎_elim
+    (λ z.
+    let other = asked_by config w n h i q d s there (subst (λ j. is_newer (mark_of j) (last_mark list.last j.client) ≡ true) (sym same) newer) in
+    let lane : d.id.client ≡ call.id.client = ap (λ (j : CallId). j.client) same ∙ z.0 in
+    let one : d ≡ call = other.0 ∙ ap h.call lane ∙ sym mine.0 in
+    waiting_now (posts ++ []) later w.nodes n after id here at_end (ap (λ (y : CallRec). y.id) (sym one) ∙ same))
+    (λ z. asked_now posts [] later w.nodes n i q after id d there (put_other came e true i t.1 ∙ fresh) same (ap (is_newer (mark_of id)) z.1 ∙ newer))
+    (mark_cases list.last call.id.client (mark_of call.id) id.client))
+    (tells i e))
+    (λ y there same. waiting_now (posts ++ []) later w.nodes n after id y (in_front list.calls (here ∷ []) y there) same)
+    (λ y there same. planned_now (posts ++ []) later w.nodes n after id y there same)
+    under)
+    (λ l m is.
+    ⊎_elim
+    (λ z.
+    let seq : m.seq ≡ call.id.seq = ap (λ (y : Mark). y.seq) (sym (same_Some (mark_of call.id) m (sym z.1 ∙ is))) in
+    let own : call.id.seq ≡ (w.clients l).seq = (row_by config w n h call s mine).1 ∙ ap (λ j. (w.clients j).seq) (sym z.0) in
+    omega arith)
+    (λ z. f.marks n l m (sym z.1 ∙ is))
+    (mark_cases list.last call.id.client (mark_of call.id) l))
+    (record { apart = (f.batches n).apart; below = (f.batches n).below })
+
+call_follows : (config : Config) (w : World) (came : ℕ → Bool) (n e p : ℕ) (x : Envelope) (h : Ghost) (call : CallRec) → Shows config w h → IsFollowed w came → IsComing w n e x
+    → IsPosted (posts_of w.envelopes) e (Node n) p (message.Call call) → IsFollowed (After config w n (begun (take_call (w.nodes n) call))) (put came e true)
+unfolding admitted
+call_follows config w came n e p x h call s f c at =
+    let node = w.nodes n in
+    elim (is_some (row_names call.op)) as (λ b. is_some (row_names call.op) ≡ b → IsFollowed (After config w n (begun (cond b (admitted node call) node))) (put came e true)) [
+      | true ↦ λ row.
+          elim (is_new node.waiting call) as (λ b. is_new node.waiting call ≡ b → IsFollowed (After config w n (begun (record node { waiting = cond b (with_call node.waiting call) node.waiting }))) (put came e true)) [
+            | true ↦ λ newest. taken config w came n e p x h call s f c at newest
+            | false ↦ λ old. not_taken config w came n e p x call f c at (λ newest. absurd (cc))
+          ] refl
+      | false ↦ λ row. not_taken config w came n e p x call f c at (λ newest. let some = (row_by config w n h call s (asked_by config w n h e p call s at newest)).0 in absurd (cc))
+    ] refl
+
+-- ---- any record
+
+item_follows : (config : Config) (w : World) (came : ℕ → Bool) (n e : ℕ) (x : Envelope) (m : Message) → IsMoving config w came → IsFollowed w came → IsComing w n e x → IsNoCall x
+    → IsFollowed (After config w n (begun (with_item (w.nodes n) m))) (put came e true)
+unfolding with_item
+item_follows config w came n e x m moving f c no_call = plain_follows config w came n e x (with_item (w.nodes n) m) moving f c no_call refl refl refl
+
+message_follows : (config : Config) (w : World) (came : ℕ → Bool) (n e : ℕ) (x : Envelope) (h : Ghost) (read : Message) → Shows config w h → IsMoving config w came → IsFollowed w came → IsComing w n e x → reading x.bytes ≡ Ok read
+    → All (λ (l : Letter). Fits l.message) (take_message (w.nodes n) x.point read).sent → IsFollowed (After config w n (take_message (w.nodes n) x.point read)) (put came e true)
+message_follows config w came n e x h (message.Call call) s m f c is fit = call_follows config w came n e x.point x h call s f c (coming_post w n e x (message.Call call) c is)
+message_follows config w came n e x h (message.FetchAsk asker number key) s m f c is fit =
+    let no_call = λ (call : CallRec) (z : result_ok (reading x.bytes) ≡ Some (message.Call call)). let y : Some (message.FetchAsk asker number key) ≡ Some (message.Call call) = sym (ap result_ok is) ∙ z in absurd (cc) in
+    elim (is_asker (w.nodes n).table.nodes asker) as (λ b. IsFollowed (After config w n (begun (cond b (with_item (w.nodes n) (message.FetchAsk asker number key)) (w.nodes n)))) (put came e true)) [
+      | true ↦ item_follows config w came n e x (message.FetchAsk asker number key) m f c no_call
+      | false ↦ plain_follows config w came n e x (w.nodes n) m f c no_call refl refl refl
+    ]
+message_follows config w came n e x h (message.FetchGot number key what) s m f c is fit =
+    settle_follows config w came n e key what x (fetch_of (w.nodes n).waiting number) number h s m f c
+    (λ call z. let y : Some (message.FetchGot number key what) ≡ Some (message.Call call) = sym (ap result_ok is) ∙ z in absurd (cc)) refl fit
+message_follows config w came n e x h other s m f c is fit =
+    plain_follows config w came n e x (w.nodes n) m f c (λ call z. let y : Some other ≡ Some (message.Call call) = sym (ap result_ok is) ∙ z in absurd (cc)) refl refl refl
+
+read_follows : (config : Config) (w : World) (came : ℕ → Bool) (n e : ℕ) (x : Envelope) (h : Ghost) (read : Result Message WireFault) → Shows config w h → IsMoving config w came → IsFollowed w came → IsComing w n e x → reading x.bytes ≡ read
+    → All (λ (l : Letter). Fits l.message) (take_read (w.nodes n) x.point read).sent → IsFollowed (After config w n (take_read (w.nodes n) x.point read)) (put came e true)
+read_follows config w came n e x h (Ok read) s m f c is fit = message_follows config w came n e x h read s m f c is fit
+read_follows config w came n e x h (Err fault) s m f c is fit =
+    plain_follows config w came n e x (w.nodes n) m f c (λ call z. let y : None ≡ Some (message.Call call) = sym (ap result_ok is) ∙ z in absurd (cc)) refl refl refl
+
+pub deliver_follows : (config : Config) (w : World) (came : ℕ → Bool) (n e : ℕ) (x : Envelope) (h : Ghost) → Shows config w h → IsMoving config w came → IsFollowed w came → slice_get w.envelopes e ≡ Some x
+    → is_node x.to (w.nodes n).number ≡ true → All (λ (l : Letter). Fits l.message) (delivered (w.nodes n) x).sent → IsFollowed (After config w n (delivered (w.nodes n) x)) (put came e true)
+unfolding delivered
+deliver_follows config w came n e x h s m f at to fit =
+    read_follows config w came n e x h (reading x.bytes) s m f (record { at = at; to = node_of x.to (w.nodes n).number to ∙ ap Node (s.placed n).number }) refl fit

@@ -1,0 +1,216 @@
+-- Each call under way is found after a client sent, and after it heard.
+use Rattle.std.proofs.Common.{◌≡◌, ◌≢◌, inl, inr, ⊎_elim, ℕ, ◌+◌, ◌<◌, ◌≤◌, Bool, true, List, [], ◌∷◌, ◌++◌, length, Option, Some, None, Result, Ok, Err, refl, sym, ap, subst, ◌∙◌, arith}
+use Rattle.std.specs.Prelude.{slice_get}
+use Rattle.std.specs.declared.cmp.Ordering.TheVariants.{Greater}
+use Rattle.std.specs.Cmp.{nat_cmp_is}
+use Rattle.std.specs.List.{All}
+use Rattle.std.specs.Ordering.{nat_cmp, ordering_then, is_gt}
+use Rattle.std.specs.Result.{result_ok}
+use Rattle.std.proofs.lemmas.List.{map-append}
+use Rattle.std.proofs.lemmas.Bool.Decides.{nat_tests}
+use Rattle.std.proofs.lemmas.Option.{same_Some}
+use Rattle.fal_base.specs.declared.call.Call.{Call}
+use Rattle.fal_base.specs.declared.call.CallId.{CallId}
+use Rattle.fal_base.specs.declared.call.CallRec.{CallRec}
+use Rattle.fal_base.specs.declared.call.Config.{Config}
+use Rattle.fal_base.specs.declared.entry.Entry.TheVariants as entry
+use Rattle.fal_base.specs.declared.event.Actor.TheVariants.{Client, Node}
+use Rattle.fal_base.specs.declared.event.Envelope.{Envelope}
+use Rattle.fal_base.specs.declared.event.Note.{Note}
+use Rattle.fal_base.specs.declared.event.Note.TheVariants as note
+use Rattle.fal_base.specs.declared.event.Output.{Output}
+use Rattle.fal_base.specs.declared.event.Point.TheVariants.{Here, Carried}
+use Rattle.fal_base.specs.declared.path.PathFault.{PathFault}
+use Rattle.fal_base.specs.declared.reply.Reply.{Reply}
+use Rattle.fal_base.specs.declared.reply.Reply.TheVariants.{Fail}
+use Rattle.fal_base.specs.Answer.{errno_of}
+use Rattle.fal_client.specs.declared.current.Current.{Current}
+use Rattle.fal_client.specs.declared.event.ClientEvent.TheVariants as client
+use Rattle.fal_client.specs.Paths.{addressee}
+use Rattle.fal_client.specs.State.{ClientState, Work as ClientWork, unchanged}
+use Rattle.fal_client.specs.Step.{client_step, begun, skipped, answered, taken, first_try, letter_to, id_at}
+use Rattle.fal_base.specs.declared.mark.Mark.{Mark}
+use Rattle.fal_base.specs.Marks.{mark_cmp, mark_of, last_mark, is_newer}
+use Rattle.fal_wire.specs.declared.fault.WireFault.{WireFault}
+use Rattle.fal_wire.specs.declared.message.Message.{Message}
+use Rattle.fal_wire.specs.declared.message.Message.TheVariants as message
+use Rattle.fal_wire.specs.Messages.{Fits, reading}
+use Rattle.fal_wire.proofs.ReadingLaws.{spelled_reads}
+use Rattle.fal_wire.specs.Letters.{output_of}
+use Rattle.fal_story.proofs.Drain.Follow.{IsUnder, Asked, IsFollowed, IsTold, IsOver, told_more, under_more}
+use Rattle.fal_story.proofs.Drain.Moving.{IsMoving}
+use Rattle.fal_story.proofs.Drain.MovingClient.{AfterClient, next_call}
+use Rattle.fal_story.proofs.Drain.MovingDeliver.{post_at}
+use Rattle.fal_story.proofs.Drain.MovingGather.{slice_get_back}
+use Rattle.fal_story.proofs.Drain.MovingServe.{posts_long}
+use Rattle.fal_story.proofs.Events.ClientEvent.{call_is, served_at}
+use Rattle.fal_story.proofs.Events.EnabledClient.{sends, gets, gets_own, IsUnheard}
+use Rattle.fal_story.proofs.Events.Shows.{Ghost, Shows, post_of, posts_of}
+use Rattle.fal_story.proofs.Lists.Grown.{tells, put_all, put_other, slice_get_end}
+use Rattle.fal_story.proofs.View.{Post, post, seat}
+use Rattle.fal_story.specs.Clusters.{IsCluster}
+use Rattle.fal_story.specs.World.{World, put, posted, envelopes_of, entries_of}
+
+-- a client's event, by what it does to its own call and to those of others
+client_follows : (config : Config) (w : World) (came later : ℕ → Bool) (l : ℕ) (c : ClientState) (sent : List Output) (notes : List Note) (more : List Post) → IsFollowed w came
+    → posts_of (envelopes_of (Client l) w.events (length w.commits) sent) ≡ more
+    → ((current : Current) → c.current ≡ Some current → IsUnder (posts_of w.envelopes ++ more) later w.nodes (id_at l c.seq 1))
+    → ((i : ℕ) (current : Current) → i ≢ l → (w.clients i).current ≡ Some current → IsUnder (posts_of w.envelopes) came w.nodes (id_at i (w.clients i).seq 1) → IsUnder (posts_of w.envelopes ++ more) later w.nodes (id_at i (w.clients i).seq 1))
+    → ((s : ℕ) → 0 < s → IsOver c s → IsTold (w.entries ++ entries_of (length w.commits) notes) l s) → (w.clients l).seq ≤ c.seq
+    → IsFollowed (posted config (record w { clients = put w.clients l c }) (Client l) sent notes) later
+unfolding posted
+client_follows config w came later l c sent notes more f is own others over grows =
+    let es = envelopes_of (Client l) w.events (length w.commits) sent in
+    let posts : posts_of (w.envelopes ++ es) ≡ posts_of w.envelopes ++ more = map-append (λ e. post_of e) w.envelopes es ∙ ap (λ ps. posts_of w.envelopes ++ ps) is in
+    record {
+      busy = subst (λ ps. (i : ℕ) (current : Current) → (put w.clients l c i).current ≡ Some current → IsUnder ps later w.nodes (id_at i (put w.clients l c i).seq 1)) (sym posts)
+          (put_all (λ i x. (current : Current) → x.current ≡ Some current → IsUnder (posts_of w.envelopes ++ more) later w.nodes (id_at i x.seq 1)) w.clients l c own (λ i ne current at. others i current ne at (f.busy i current at)));
+      over = put_all (λ i x. (s : ℕ) → 0 < s → IsOver x s → IsTold (w.entries ++ entries_of (length w.commits) notes) i s) w.clients l c over
+          (λ i _ s some at. told_more w.entries (entries_of (length w.commits) notes) i s (f.over i s some at));
+      marks = λ n i m at. put_all (λ j x. last_mark (w.nodes n).waiting.last j ≡ Some m → m.seq ≤ x.seq) w.clients l c (λ z. let low = f.marks n l m z in omega arith) (λ j _ z. f.marks n j m z) i at;
+      batches = f.batches;
+    }
+
+-- ---- Send
+
+-- a later call is newer
+newer_seq : (a b : Mark) → b.seq < a.seq → is_newer a (Some b) ≡ true
+unfolding mark_cmp
+newer_seq a b low = ap (λ r. is_gt (ordering_then r (ordering_then (nat_cmp a.attempt b.attempt) (nat_cmp a.hop b.hop)))) (sym (nat_cmp_is a.seq b.seq Greater low))
+
+newer_than : (a : Mark) (o : Option Mark) → ((b : Mark) → o ≡ Some b → b.seq < a.seq) → is_newer a o ≡ true
+newer_than a None h = refl
+newer_than a (Some b) h = newer_seq a b (h b refl)
+
+abbrev record_of : ClientState → Call → CallRec
+record_of c call = record { id = id_at c.lane (c.seq + 1) 1; cred = call.cred; version = c.table.version; op = call.op }
+
+-- what was over is so, and the last call was no longer under way
+before_next : (w : World) (came : ℕ → Bool) (l s : ℕ) → IsFollowed w came → (w.clients l).current ≡ None → 0 < s → s < (w.clients l).seq + 1 → IsTold w.entries l s
+before_next w came l s f none some low =
+    ⊎_elim (λ t. f.over l s some (inr (t.1, none))) (λ t. let ne = t.1 in f.over l s some (inl (below s (w.clients l).seq low ne))) (tells s (w.clients l).seq)
+  where
+    below : (s q : ℕ) → s < q + 1 → s ≢ q → s < q
+    below s q low ne = ⊎_elim (λ t. absurd (ne t.1)) (λ t. grind (arith, nat_tests)) (tells s q)
+
+skips : (config : Config) (w : World) (came : ℕ → Bool) (l : ℕ) (h : Ghost) (call : Call) (fault : PathFault) → Shows config w h → IsFollowed w came → (w.clients l).current ≡ None
+    → IsFollowed (AfterClient config w l (skipped (w.clients l) fault)) came
+unfolding skipped
+skips config w came l h call fault s f none =
+    let c = w.clients l in
+    let notes = note.Sent c.lane (c.seq + 1) ∷ note.Answered c.lane (c.seq + 1) (Here 0) (Fail (errno_of fault)) ∷ [] in
+    client_follows config w came came l (taken c) [] notes [] f refl
+    (λ current e. absurd (cc))
+    (λ i current ne busy under. under_more (posts_of w.envelopes) [] came came w.nodes _ (λ k n p d at fresh. fresh) (λ k p reply at fresh. fresh) under)
+    (λ q some at.
+    ⊎_elim
+    (λ low. told_more w.entries (entries_of (length w.commits) notes) l q (before_next w came l q f none some low))
+    (λ z.
+    let here : slice_get (entries_of (length w.commits) notes) 1 ≡ Some (entry.Answered l q (length w.commits + 0) (Fail (errno_of fault))) =
+    (λ i. Some (entry.Answered ((s.heard l).lane i) (sym z.0 i) (length w.commits + 0) (Fail (errno_of fault)))) in
+    (length w.entries + 1, (length w.commits + 0, (Fail (errno_of fault), slice_get_back w.entries (entries_of (length w.commits) notes) 1 _ here))))
+    at)
+    (omega arith)
+
+begins : (config : Config) (w : World) (came : ℕ → Bool) (l : ℕ) (h : Ghost) (call : Call) → IsCluster config → Shows config w h → IsMoving config w came → IsFollowed w came → (w.clients l).current ≡ None
+    → slice_get (w.clients l).left 0 ≡ Some call → All (λ y. Fits y.message) (begun (w.clients l) call).sent → IsFollowed (AfterClient config w l (begun (w.clients l) call)) came
+unfolding begun output_of
+begins config w came l h call cluster s m f none left fit =
+    let c = w.clients l in
+    let called = record_of c call in
+    let to = served_at c.table call.op (call_is config l (c.seq + 1) call cluster (next_call config w l h call s left)).served in
+    let message_sent = letter_to (addressee c.table call.op) (message.Call called) in
+    let notes = note.Sent c.lane (c.seq + 1) ∷ [] in
+    let new : Post = post (Node to.0) (length w.commits + 0) (message.Call called) in
+    let posts : posts_of (envelopes_of (Client l) w.events (length w.commits) (output_of message_sent ∷ [])) ≡ new ∷ [] =
+    (λ i. record { to = seat (to.1 i); point = length w.commits + 0; message = result_ok (spelled_reads (message.Call called) (fit 0 message_sent (omega arith)) i) } ∷ []) in
+    let long = posts_long w.envelopes in
+    let k : ℕ = length (posts_of w.envelopes) in
+    let id_is : called.id ≡ id_at l (c.seq + 1) 1 = ap (λ i. id_at i (c.seq + 1) 1) (s.heard l).lane in
+    client_follows config w came came l (record (taken c) { current = Some (first_try call) }) (output_of message_sent ∷ []) notes (new ∷ []) f posts
+    (λ current e. Asked k (length w.commits + 0) to.0 called (slice_get_end (posts_of w.envelopes) new) (m.past k (omega arith)) id_is
+    (newer_than (mark_of (id_at l (c.seq + 1) 1)) (last_mark (w.nodes to.0).waiting.last l) (λ b is. let low = f.marks to.0 l b is in omega arith)))
+    (λ i current ne busy under. under_more (posts_of w.envelopes) (new ∷ []) came came w.nodes _ (λ j n p d at fresh. fresh) (λ j p reply at fresh. fresh) under)
+    (λ q some at.
+    ⊎_elim
+    (λ low. told_more w.entries (entries_of (length w.commits) notes) l q (before_next w came l q f none some low))
+    (λ z. absurd (let wrong = z.1 in cc))
+    at)
+    (omega arith)
+
+pub send_follows : (config : Config) (w : World) (came : ℕ → Bool) (l : ℕ) (h : Ghost) (m : ClientWork) → IsCluster config → Shows config w h → IsMoving config w came → IsFollowed w came → client_step (w.clients l) client.Send ≡ Some m
+    → All (λ y. Fits y.message) m.sent → IsFollowed (AfterClient config w l m) came
+send_follows config w came l h m cluster s moving f is =
+    sends (w.clients l) m (λ y. All (λ z. Fits z.message) y.sent → IsFollowed (AfterClient config w l y) came)
+    (λ call none left good fit. begins config w came l h call cluster s moving f none left fit)
+    (λ call fault none left bad fit. skips config w came l h call fault s f none)
+    is
+
+-- ---- Get
+
+read_is : (r : Result Message WireFault) (m : Message) → result_ok r ≡ Some m → r ≡ Ok m
+read_is (Ok n) m e = cc
+read_is (Err fault) m e = absurd (cc)
+
+-- the calls of which the answer did not come now
+still_under : (w : World) (came : ℕ → Bool) (l number i : ℕ) (x : Envelope) (id : CallId) → slice_get w.envelopes number ≡ Some x → x.to ≡ Client l
+    → ((reply : Reply) → id.client ≡ l → reading x.bytes ≡ Ok (message.Reply id reply) → ⊥) → IsUnder (posts_of w.envelopes) came w.nodes id → IsUnder (posts_of w.envelopes ++ []) (put came number true) w.nodes id
+still_under w came l number i x id at to unheard under =
+    under_more (posts_of w.envelopes) [] came (put came number true) w.nodes id
+    (λ k n p d there fresh.
+    ⊎_elim
+    (λ t. let same = same_post k (post (Node n) p (message.Call d)) t.1 there in let wrong : Client l ≡ Node n = sym (ap seat to) ∙ ap (λ (z : Post). z.to) same in absurd (cc))
+    (λ t. put_other came number true k t.1 ∙ fresh)
+    (tells k number))
+    (λ k p reply there fresh.
+    ⊎_elim
+    (λ t.
+    let same = same_post k (post (Client id.client) p (message.Reply id reply)) t.1 there in
+    let mine : Client l ≡ Client id.client = sym (ap seat to) ∙ ap (λ (z : Post). z.to) same in
+    absurd (unheard reply (lane_same l id.client mine) (read_is (reading x.bytes) (message.Reply id reply) (ap (λ (z : Post). z.message) same))))
+    (λ t. put_other came number true k t.1 ∙ fresh)
+    (tells k number))
+    under
+  where
+    lane_same : (a b : ℕ) → Client a ≡ Client b → b ≡ a
+    lane_same a b e = cc
+
+    same_post : (k : ℕ) (y : Post) → k ≡ number → slice_get (posts_of w.envelopes) k ≡ Some y → post_of x ≡ y
+    same_post k y same there = same_Some (post_of x) y (sym (post_at w.envelopes number x at) ∙ ap (slice_get (posts_of w.envelopes)) (sym same) ∙ there)
+
+rests : (config : Config) (w : World) (came : ℕ → Bool) (l number : ℕ) (x : Envelope) → IsFollowed w came → slice_get w.envelopes number ≡ Some x → x.to ≡ Client l → IsUnheard w l x
+    → IsFollowed (AfterClient config w l (unchanged (w.clients l))) (put came number true)
+rests config w came l number x f at to unheard =
+    let c = w.clients l in
+    client_follows config w came (put came number true) l c [] [] [] f refl
+    (λ current busy. still_under w came l number l x (id_at l c.seq 1) at to (λ reply same read. unheard current reply busy read) (f.busy l current busy))
+    (λ i current ne busy under. still_under w came l number i x (id_at i (w.clients i).seq 1) at to (λ reply same read. absurd (ne same)) under)
+    (λ s some over. told_more w.entries [] l s (f.over l s some over))
+    (omega arith)
+
+answers : (config : Config) (w : World) (came : ℕ → Bool) (l number : ℕ) (x : Envelope) (h : Ghost) (reply : Reply) → Shows config w h → IsFollowed w came → slice_get w.envelopes number ≡ Some x → x.to ≡ Client l
+    → IsFollowed (AfterClient config w l (answered (w.clients l) x.point reply)) (put came number true)
+unfolding answered
+answers config w came l number x h reply s f at to =
+    let c = w.clients l in
+    let notes = note.Answered c.lane c.seq (Carried x.point) reply ∷ [] in
+    client_follows config w came (put came number true) l (record c { current = None }) [] notes [] f refl
+    (λ current e. absurd (cc))
+    (λ i current ne busy under. still_under w came l number i x (id_at i (w.clients i).seq 1) at to (λ told same read. absurd (ne same)) under)
+    (λ q some over.
+    ⊎_elim
+    (λ low. told_more w.entries (entries_of (length w.commits) notes) l q (f.over l q some (inl low)))
+    (λ z.
+    let here : slice_get (entries_of (length w.commits) notes) 0 ≡ Some (entry.Answered l q x.point reply) = (λ i. Some (entry.Answered ((s.heard l).lane i) (sym z.0 i) x.point reply)) in
+    (length w.entries + 0, (x.point, (reply, slice_get_back w.entries (entries_of (length w.commits) notes) 0 _ here))))
+    over)
+    (omega arith)
+
+pub get_follows : (config : Config) (w : World) (came : ℕ → Bool) (l number : ℕ) (h : Ghost) (x : Envelope) (m : ClientWork) → Shows config w h → IsFollowed w came → slice_get w.envelopes number ≡ Some x
+    → client_step (w.clients l) (client.Get x) ≡ Some m → IsFollowed (AfterClient config w l m) (put came number true)
+get_follows config w came l number h x m s f at is =
+    let to = gets_own (w.clients l) x m is ∙ ap Client (s.heard l).lane in
+    gets config w l number h x m (λ y. IsFollowed (AfterClient config w l y) (put came number true)) s at
+    (λ unheard. rests config w came l number x f at to unheard)
+    (λ id reply current a. answers config w came l number x h reply s f at to)
+    is

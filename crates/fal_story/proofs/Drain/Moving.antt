@@ -1,0 +1,92 @@
+-- What keeps a run going: no number is past, records go to actors that are there, and each call that waits has something on the way.
+use Rattle.std.proofs.Common.{◌≡◌, ◌≢◌, ℕ, ◌<◌, ◌≤◌, Bool, true, false, List, ◌++◌, length, map, sym, subst, arith, length-append}
+use Rattle.std.specs.List.{All}
+use Rattle.std.proofs.lemmas.List.{map-append}
+use Rattle.fal_base.specs.declared.call.Config.{Config}
+use Rattle.fal_base.specs.declared.event.Actor.{Actor}
+use Rattle.fal_base.specs.declared.event.Actor.TheVariants.{Node}
+use Rattle.fal_base.specs.declared.event.Envelope.{Envelope}
+use Rattle.fal_base.specs.declared.event.Output.{Output}
+use Rattle.fal_base.specs.declared.event.Note.{Note}
+use Rattle.fal_base.specs.declared.key.Key.{Key}
+use Rattle.fal_client.specs.State.{ClientState}
+use Rattle.fal_node.specs.declared.item.Item.{Item}
+use Rattle.fal_wire.specs.declared.letter.Letter.{Letter}
+use Rattle.fal_node.specs.Due.{is_quiet}
+use Rattle.fal_node.specs.Letters.{Work}
+use Rattle.fal_wire.specs.declared.message.Message.TheVariants as message
+use Rattle.fal_wire.specs.Messages.{Fits}
+use Rattle.fal_wire.specs.Letters.{output_of}
+use Rattle.fal_story.proofs.Drain.Actors.{IsActor, letters_go}
+use Rattle.fal_story.proofs.Drain.OnWay.{IsOnWay, AreOnWay, items_with, way_more}
+use Rattle.fal_story.proofs.Events.InStep.{letter_posts, posts_sent}
+use Rattle.fal_story.proofs.Events.Shows.{post_of, posts_of}
+use Rattle.fal_story.proofs.Lists.Each.{Each, each_weaker, each_join}
+use Rattle.fal_story.proofs.Lists.Grown.{put_all}
+use Rattle.fal_story.proofs.View.{Post}
+use Rattle.fal_story.specs.World.{World, put, posted, envelopes_of}
+
+abbrev pub items_in : World → ℕ → List Item
+items_in w n = (w.nodes n).items
+
+-- no record came that was not sent
+abbrev pub IsPast : ℕ → (ℕ → Bool) → Type 0
+IsPast count came = (k : ℕ) → count ≤ k → came k ≡ false
+
+-- the message asks for a directory
+abbrev pub IsQuestion : Item → Type 0
+IsQuestion item = (asker : ℕ) × ((number : ℕ) × ((key : Key) × (item.message ≡ message.FetchAsk asker number key)))
+
+pub record IsMoving (config : Config) (w : World) (came : ℕ → Bool) : Type 0 where
+  pub past : IsPast (length w.envelopes) came
+  pub within : Each (λ (e : Envelope). IsActor config e.to) w.envelopes
+  pub waits : (n : ℕ) → AreOnWay (posts_of w.envelopes) came (items_in w) n (w.nodes n).waiting.calls
+  pub questions : (n : ℕ) → Each IsQuestion (w.nodes n).items
+  pub beyond : (n : ℕ) → config.nodes ≤ n → is_quiet (w.nodes n) ≡ true
+
+more_past : (xs ys : List Envelope) (came : ℕ → Bool) → IsPast (length xs) came → IsPast (length (xs ++ ys)) came
+more_past xs ys came h k at = let l = length-append xs ys in h k (omega arith)
+
+-- a client's event: records are sent, and what came may be more
+pub client_moves : (config : Config) (w : World) (came later : ℕ → Bool) (l : ℕ) (c : ClientState) (from : Actor) (sent : List Output) (notes : List Note) → IsMoving config w came
+    → IsPast (length w.envelopes) later → Each (λ (e : Envelope). IsActor config e.to) (envelopes_of from w.events (length w.commits) sent)
+    → ((n f : ℕ) → IsOnWay (posts_of w.envelopes) came (items_in w) n f → IsOnWay (posts_of w.envelopes) later (items_in w) n f)
+    → IsMoving config (posted config (record w { clients = put w.clients l c }) from sent notes) later
+unfolding posted
+client_moves config w came later l c from sent notes m past go ways =
+    let es = envelopes_of from w.events (length w.commits) sent in
+    record {
+      past = more_past w.envelopes es later past;
+      within = each_join (λ (e : Envelope). IsActor config e.to) w.envelopes es m.within go;
+      waits = λ n. subst (λ ps. AreOnWay ps later (items_in w) n (w.nodes n).waiting.calls) (sym (map-append (λ e. post_of e) w.envelopes es))
+          (each_weaker _ _ (w.nodes n).waiting.calls (λ x h f is. way_more (posts_of w.envelopes) (posts_of es) later (items_in w) (items_in w) n f (λ i item at. at) (ways n f (h f is))) (m.waits n));
+      questions = m.questions;
+      beyond = m.beyond;
+    }
+
+-- the records after a node's work
+abbrev pub posts_after : World → Work → List Post
+posts_after w k = posts_of w.envelopes ++ letter_posts (length w.commits) k.sent
+
+abbrev pub items_after : World → ℕ → Work → ℕ → List Item
+items_after w n k = items_with w.nodes n k.node
+
+-- a node's event, by what it does here and to what is on the way elsewhere
+pub node_moves : (config : Config) (w : World) (came later : ℕ → Bool) (n : ℕ) (k : Work) → n < config.nodes → All (λ (letter : Letter). Fits letter.message) k.sent → IsMoving config w came
+    → IsPast (length w.envelopes) later → Each (λ (letter : Letter). IsActor config letter.to) k.sent
+    → AreOnWay (posts_after w k) later (items_after w n k) n k.node.waiting.calls
+    → ((m f : ℕ) → m ≢ n → IsOnWay (posts_of w.envelopes) came (items_in w) m f → IsOnWay (posts_after w k) later (items_after w n k) m f)
+    → Each IsQuestion k.node.items → IsMoving config (posted config (record w { nodes = put w.nodes n k.node }) (Node n) (map output_of k.sent) k.notes) later
+unfolding posted
+node_moves config w came later n k there fit m past go here others questions =
+    let es = envelopes_of (Node n) w.events (length w.commits) (map output_of k.sent) in
+    let posts : posts_of (w.envelopes ++ es) ≡ posts_after w k = posts_sent (Node n) w.events (length w.commits) w.envelopes k.sent fit in
+    record {
+      past = more_past w.envelopes es later past;
+      within = each_join (λ (e : Envelope). IsActor config e.to) w.envelopes es m.within (letters_go config (Node n) w.events (length w.commits) k.sent go);
+      waits = subst (λ ps. (i : ℕ) → AreOnWay ps later (items_after w n k) i (put w.nodes n k.node i).waiting.calls) (sym posts)
+          (put_all (λ i x. AreOnWay (posts_after w k) later (items_after w n k) i x.waiting.calls) w.nodes n k.node here
+          (λ i ne. each_weaker _ _ (w.nodes i).waiting.calls (λ x h f is. others i f ne (h f is)) (m.waits i)));
+      questions = put_all (λ i x. Each IsQuestion x.items) w.nodes n k.node questions (λ i _. m.questions i);
+      beyond = put_all (λ i x. config.nodes ≤ i → is_quiet x ≡ true) w.nodes n k.node (λ high. absurd (omega arith)) (λ i _. m.beyond i);
+    }

@@ -1,0 +1,64 @@
+-- A cluster goes on when a client sends and when it hears.
+use Rattle.std.proofs.Common.{◌≡◌, ℕ, ◌+◌, Bool, true, [], map, Some, sym, ap, subst, ◌∙◌, arith}
+use Rattle.std.specs.Prelude.{slice_get}
+use Rattle.fal_base.specs.declared.call.Call.{Call}
+use Rattle.fal_base.specs.declared.call.Config.{Config}
+use Rattle.fal_base.specs.declared.event.Actor.TheVariants.{Client, Node}
+use Rattle.fal_base.specs.declared.event.Envelope.{Envelope}
+use Rattle.fal_base.specs.Transcript.{call_of}
+use Rattle.fal_wire.specs.Letters.{output_of}
+use Rattle.fal_client.specs.declared.event.ClientEvent.TheVariants as client
+use Rattle.fal_client.specs.Paths.{addressee}
+use Rattle.fal_client.specs.State.{Work as ClientWork}
+use Rattle.fal_client.specs.Step.{client_step, begun, skipped, answered}
+use Rattle.fal_story.proofs.Drain.Actors.{IsActor, served_there}
+use Rattle.fal_story.proofs.Drain.Moving.{IsMoving, items_in, client_moves}
+use Rattle.fal_story.proofs.Drain.MovingDeliver.{post_at, came_past}
+use Rattle.fal_story.proofs.Drain.OnWay.{IsOnWay, way_comes}
+use Rattle.fal_story.proofs.Events.ClientEvent.{call_is}
+use Rattle.fal_story.proofs.Events.EnabledClient.{sends, gets, gets_own}
+use Rattle.fal_story.proofs.Events.Shows.{Ghost, Shows, post_of, posts_of}
+use Rattle.fal_story.proofs.View.{Post, seat}
+use Rattle.fal_story.specs.Clusters.{IsCluster}
+use Rattle.fal_story.specs.World.{World, put, posted}
+
+abbrev pub AfterClient : Config → World → ℕ → ClientWork → World
+AfterClient config w l m = posted config (record w { clients = put w.clients l m.client }) (Client l) (map output_of m.sent) m.notes
+
+-- the next call of a client, which is one that is served
+pub next_call : (config : Config) (w : World) (l : ℕ) (h : Ghost) (call : Call) → Shows config w h → slice_get (w.clients l).left 0 ≡ Some call → call_of config l ((w.clients l).seq + 1) ≡ Some call
+next_call config w l h call s left = ap (call_of config l) (nothing_more ((w.clients l).seq + 1)) ∙ sym ((s.heard l).left 0) ∙ left
+  where
+    nothing_more : (n : ℕ) → n ≡ n + 0
+    nothing_more n = omega arith
+
+pub send_moves : (config : Config) (w : World) (came : ℕ → Bool) (l : ℕ) (h : Ghost) (m : ClientWork) → IsCluster config → Shows config w h → IsMoving config w came → client_step (w.clients l) client.Send ≡ Some m
+    → IsMoving config (AfterClient config w l m) came
+unfolding begun skipped output_of
+send_moves config w came l h m cluster s moving is =
+    let c = w.clients l in
+    sends c m (λ y. IsMoving config (AfterClient config w l y) came)
+    (λ call none left good.
+    let served = (call_is config l (c.seq + 1) call cluster (next_call config w l h call s left)).served in
+    client_moves config w came came l (begun c call).client (Client l) (map output_of (begun c call).sent) (begun c call).notes moving moving.past
+    (subst (λ t. IsActor config (addressee t call.op)) (sym (s.heard l).table) (served_there config call.op cluster served), tt) (λ n f o. o))
+    (λ call fault none left bad. client_moves config w came came l (skipped c fault).client (Client l) [] (skipped c fault).notes moving moving.past tt (λ n f o. o))
+    is
+
+pub get_moves : (config : Config) (w : World) (came : ℕ → Bool) (l number : ℕ) (h : Ghost) (x : Envelope) (m : ClientWork) → Shows config w h → IsMoving config w came → slice_get w.envelopes number ≡ Some x
+    → client_step (w.clients l) (client.Get x) ≡ Some m → IsMoving config (AfterClient config w l m) (put came number true)
+unfolding answered
+get_moves config w came l number h x m s moving at is =
+    let c = w.clients l in
+    let own = gets_own c x m is in
+    let ways = λ (n f : ℕ) (o : IsOnWay (posts_of w.envelopes) came (items_in w) n f).
+    way_comes (posts_of w.envelopes) came (items_in w) number (post_of x) n f (IsOnWay (posts_of w.envelopes) (put came number true) (items_in w) n f) (post_at w.envelopes number x at)
+    (λ still. still)
+    (λ p to key e. let wrong : Client c.lane ≡ Node to = sym (ap seat own) ∙ ap (λ (z : Post). z.to) e in absurd (cc))
+    (λ p key what e. let wrong : Client c.lane ≡ Node n = sym (ap seat own) ∙ ap (λ (z : Post). z.to) e in absurd (cc))
+    o in
+    let past = came_past w.envelopes number x came at moving.past in
+    gets config w l number h x m (λ y. IsMoving config (AfterClient config w l y) (put came number true)) s at
+    (λ _. client_moves config w came (put came number true) l c (Client l) [] [] moving past tt ways)
+    (λ id reply current a. client_moves config w came (put came number true) l (answered c x.point reply).client (Client l) [] (answered c x.point reply).notes moving past tt ways)
+    is

@@ -1,0 +1,189 @@
+-- Where nothing but Send is fresh the cluster is quiet.
+use Rattle.std.proofs.Common.{◌≡◌, ◌≢◌, ℕ, zero, suc, ◌<◌, ◌≤◌, nat_lt, Bool, true, false, not, ◌&&◌, ◌||◌, cond, List, [], ◌∷◌, length, Option, Some, None, is_none, refl, sym, ap, subst, ◌∙◌, arith}
+use Rattle.std.specs.Prelude.{slice_get, ◌==◌, IsSome}
+use Rattle.std.specs.List.{list_all, list_any}
+use Rattle.std.proofs.lemmas.Bool.Decides.{nat_tests}
+use Rattle.fal_base.specs.declared.call.Config.{Config}
+use Rattle.fal_base.specs.declared.event.Envelope.{Envelope}
+use Rattle.fal_base.specs.declared.event.Event.{Event}
+use Rattle.fal_base.specs.declared.key.Key.{Key}
+use Rattle.fal_batch.specs.Fate.{Setting, Fate, Skips, Leaves, Waits, Joins, fate, bars}
+use Rattle.fal_batch.specs.Plan.{tickets_differ, no_plan, free_calls, is_idle, is_skipped, is_skipped_by}
+use Rattle.fal_batch.proofs.Empty.{idle_calls}
+use Rattle.fal_batch.proofs.FreeCalls.{free_of, free_calls_are}
+use Rattle.fal_coord.specs.State.{opening_coord, is_quiet as is_coord_quiet}
+use Rattle.fal_locks.specs.Keys.{has_key}
+use Rattle.fal_locks.specs.Locks.{LockTable, is_shut, keys_of}
+use Rattle.fal_node.specs.declared.item.Item.{Item}
+use Rattle.fal_node.specs.Due.{is_quiet}
+use Rattle.fal_node.specs.Gather.{setting_at, plan_at}
+use Rattle.fal_node.specs.Serve.{can_serve, owns}
+use Rattle.fal_node.specs.State.{blocked_names, NodeState}
+use Rattle.fal_wait.specs.declared.waiting_call.WaitingCall.{WaitingCall}
+use Rattle.fal_story.proofs.Drain.Actors.{IsActor}
+use Rattle.fal_story.proofs.Drain.Moving.{IsMoving, IsQuestion, items_in}
+use Rattle.fal_story.proofs.Drain.MovingRuns.{legal_moves}
+use Rattle.fal_story.proofs.Drain.NoneDue.{NoneFresh, none_fresh, none_due}
+use Rattle.fal_story.proofs.Drain.Unheard.{coord_rests}
+use Rattle.fal_story.proofs.Drain.OnWay.{IsOnWay, Asks, Keeps, Gets}
+use Rattle.fal_story.proofs.Events.Going.{GoesOn, fates_go}
+use Rattle.fal_story.proofs.Events.Shows.{Ghost, Shows, IsPlaced, IsTidy, posts_of}
+use Rattle.fal_story.proofs.Lists.Each.{Each, Apart, each_weaker, each_both}
+use Rattle.fal_story.proofs.Lists.Grown.{unequal}
+use Rattle.fal_story.proofs.Lists.Members.{IsIn, each_in, in_at}
+use Rattle.fal_story.proofs.Lists.WaitLists.{rising_apart}
+use Rattle.fal_story.proofs.View.{Post}
+use Rattle.fal_story.specs.Clusters.{IsCluster}
+use Rattle.fal_story.specs.Fresh.{IsQuiet, IsQuietAt, came, first_reply, fresh_replies_at}
+use Rattle.fal_story.specs.Run.{IsLegal, run}
+use Rattle.fal_story.specs.World.{World}
+
+-- ---- items
+
+none_shut : (locks : LockTable) (key : Key) → locks.shut ≡ None → is_shut locks key ≡ false
+none_shut locks key none = ap (λ o. has_key (keys_of o) key) none
+
+-- nothing is blocked or shut, so each question can be served
+question_served : (config : Config) (n : ℕ) (node : NodeState) (item : Item) → IsPlaced config n node → node.locks.shut ≡ None → IsQuestion item → can_serve node item.message ≡ true
+question_served config n node item p none q =
+    let key = q.1.1.0 in
+    ap (can_serve node) q.1.1.1
+    ∙ ap (λ b. not (bars (blocked_names b) key.name) && (not (owns node key) || not (is_shut node.locks key))) p.blocked
+    ∙ ap (λ b. not (owns node key) || not b) (none_shut node.locks key none)
+    ∙ or_true (not (owns node key))
+  where
+    or_true : (b : Bool) → (b || true) ≡ true
+    or_true true = refl
+    or_true false = refl
+
+no_items : (items : List Item) → Each (λ (i : Item). ⊥) items → items ≡ []
+no_items [] h = refl
+no_items (x ∷ xs) h = absurd h.0
+
+-- ---- calls
+
+-- a call that goes on is not skipped where a batch takes one call
+not_skipped : (limit : ℕ) (f : Fate) → 1 ≤ limit → GoesOn f → is_skipped_by limit f ≡ true → ⊥
+not_skipped limit Skips some going is = absurd going
+not_skipped limit (Leaves to) some going is = absurd going
+not_skipped limit (Waits key) some going is = absurd (cc)
+not_skipped limit (Joins denied parent last keys) some going is = let wrong : (limit == 0) ≡ false = grind (arith, nat_tests) in absurd (cc)
+
+no_calls_left : (calls : List WaitingCall) → Each (λ (x : WaitingCall). (f : ℕ) → x.fetch ≡ Some f → ⊥) calls → Each (λ (x : WaitingCall). x.fetch ≡ None → ⊥) calls → calls ≡ []
+no_calls_left [] h k = refl
+no_calls_left (x ∷ xs) h k = elim x.fetch as (λ o. x.fetch ≡ o → x ∷ xs ≡ []) [ None ↦ λ e. absurd (k.0 e) | Some f ↦ λ e. absurd (h.0 f e) ] refl
+
+free_skipped : (s : Setting) (calls : List WaitingCall) → list_all (λ w. is_skipped s w.call) (free_of calls) ≡ true → Each (λ (x : WaitingCall). x.fetch ≡ None → is_skipped s x.call ≡ true) calls
+free_skipped s [] h = tt
+free_skipped s (x ∷ xs) h =
+    elim x.fetch as (λ o. x.fetch ≡ o → list_all (λ w. is_skipped s w.call) (cond (is_none o) (x ∷ free_of xs) (free_of xs)) ≡ true → Each (λ (y : WaitingCall). y.fetch ≡ None → is_skipped s y.call ≡ true) (x ∷ xs)) [
+      | None ↦ λ e z. ((λ _. first (is_skipped s x.call) _ z), free_skipped s xs (second (is_skipped s x.call) _ z))
+      | Some f ↦ λ e z. ((λ none. let wrong : Some f ≡ None = sym e ∙ none in absurd (cc)), free_skipped s xs z)
+    ] refl h
+  where
+    first : (a b : Bool) → (a && b) ≡ true → a ≡ true
+    first true b e = refl
+    first false b e = absurd (cc)
+
+    second : (a b : Bool) → (a && b) ≡ true → b ≡ true
+    second true b e = e
+    second false b e = absurd (cc)
+
+-- no two calls of a list have one ticket
+pub tickets_differ_of : (ws : List WaitingCall) → Apart (λ w. w.ticket) ws → tickets_differ ws ≡ true
+tickets_differ_of [] h = refl
+tickets_differ_of (w ∷ ws) h = both (not (list_any (λ v. v.ticket == w.ticket) ws)) (tickets_differ ws) (ap not (no_other w ws h.0)) (tickets_differ_of ws h.1)
+  where
+    no_other : (w : WaitingCall) (ws : List WaitingCall) → Each (λ v. v.ticket ≢ w.ticket) ws → list_any (λ v. v.ticket == w.ticket) ws ≡ false
+    no_other w [] h = refl
+    no_other w (v ∷ vs) h = ap (λ b. b || list_any (λ x. x.ticket == w.ticket) vs) (unequal v.ticket w.ticket h.0) ∙ no_other w vs h.1
+
+    both : (a b : Bool) → a ≡ true → b ≡ true → (a && b) ≡ true
+    both a b p q = ap (λ x. x && b) p ∙ q
+
+-- an idle plan skips each free call
+idle_skips : (node : NodeState) → IsTidy node.waiting → is_idle (plan_at node) ≡ true → Each (λ (x : WaitingCall). x.fetch ≡ None → is_skipped (setting_at node) x.call ≡ true) node.waiting.calls
+unfolding plan_at
+idle_skips node tidy idle =
+    let s = setting_at node in
+    let free : free_calls node.waiting ≡ free_of node.waiting.calls = free_calls_are node.waiting (tickets_differ_of node.waiting.calls (rising_apart node.waiting.calls node.waiting.tickets tidy.tickets)) in
+    free_skipped s node.waiting.calls (ap (list_all (λ w. is_skipped s w.call)) (sym free) ∙ sym (idle_calls s no_plan (free_calls node.waiting)) ∙ idle)
+
+-- ---- a cluster
+
+quiet_of : (node : NodeState) → node.batches ≡ [] → node.waiting.calls ≡ [] → node.items ≡ [] → is_quiet node ≡ true
+quiet_of node b c i =
+    ap (λ xs. (length xs == 0) && (length node.waiting.calls == 0) && (length node.items == 0)) b ∙ ap (λ xs. (length xs == 0) && (length node.items == 0)) c ∙ ap (λ (xs : List Item). length xs == 0) i
+
+quiet_items : (node : NodeState) → is_quiet node ≡ true → node.items ≡ []
+quiet_items node quiet = empty node.items (second ((length node.batches == 0) && (length node.waiting.calls == 0)) (length node.items == 0) quiet)
+  where
+    second : (a b : Bool) → (a && b) ≡ true → b ≡ true
+    second true b e = e
+    second false b e = absurd (cc)
+
+    empty : (xs : List Item) → (length xs == 0) ≡ true → xs ≡ []
+    empty [] e = refl
+    empty (x ∷ xs) e = let wrong : (suc (length xs) == 0) ≡ false = grind (arith, nat_tests) in absurd (cc)
+
+-- a record that is posted was sent in an envelope
+pub envelope_at : (xs : List Envelope) (k : ℕ) (y : Post) → slice_get (posts_of xs) k ≡ Some y → (x : Envelope) × (slice_get xs k ≡ Some x)
+envelope_at [] k y at = absurd (cc)
+envelope_at (x ∷ xs) zero y at = (x, refl)
+envelope_at (x ∷ xs) (suc k) y at = envelope_at xs k y at
+
+module _ (config : Config) (w : World) (c : ℕ → Bool) (cluster : IsCluster config) (h : Ghost) (s : Shows config w h) (m : IsMoving config w c) (none : NoneFresh config w c) where
+  pub every_came : (k : ℕ) (x : Envelope) → slice_get w.envelopes k ≡ Some x → c k ≡ true
+  every_came k x at = none.all_came k x at (each_in (λ (e : Envelope). IsActor config e.to) w.envelopes x m.within (in_at w.envelopes k x at))
+
+  posted_came : (k : ℕ) (y : Post) → slice_get (posts_of w.envelopes) k ≡ Some y → c k ≡ false → ⊥
+  posted_came k y at fresh = let x = envelope_at w.envelopes k y at in let came = every_came k x.0 x.1 in absurd (cc)
+
+  items_none : (n : ℕ) → n < config.nodes → (w.nodes n).items ≡ []
+  items_none n there =
+      let due = none_due (w.nodes n) (none.no_dues n there) in
+      no_items (w.nodes n).items (each_both IsQuestion (λ (i : Item). can_serve (w.nodes n) i.message ≡ false) (λ i. ⊥) (w.nodes n).items (λ i q z. let can = question_served config n (w.nodes n) i (s.placed n) (s.good.operation.stands n there).1 q in absurd (cc)) (m.questions n) due.items)
+
+  -- nor does a node that is not there
+  no_item : (n : ℕ) → (w.nodes n).items ≡ []
+  no_item n =
+      elim (nat_lt n config.nodes) as (λ b. nat_lt n config.nodes ≡ b → (w.nodes n).items ≡ []) [
+        | true ↦ λ is. let there : n < config.nodes = grind (arith, nat_tests) in items_none n there
+        | false ↦ λ is. let beyond : config.nodes ≤ n = grind (arith, nat_tests) in quiet_items (w.nodes n) (m.beyond n beyond)
+      ] refl
+
+  on_way_none : (n f : ℕ) → IsOnWay (posts_of w.envelopes) c (items_in w) n f → ⊥
+  on_way_none n f (Asks k p to key at fresh) = posted_came k _ at fresh
+  on_way_none n f (Keeps i item key at is) = let none_there : IsIn item [] = subst (IsIn item) (no_item i) at in absurd none_there
+  on_way_none n f (Gets k p key what at fresh) = posted_came k _ at fresh
+
+  calls_none : (n : ℕ) → n < config.nodes → (w.nodes n).waiting.calls ≡ []
+  calls_none n there =
+      let node = w.nodes n in
+      let due = none_due node (none.no_dues n there) in
+      let p = s.placed n in
+      let some : 1 ≤ node.limit = subst (λ i. 1 ≤ i) (sym p.limit) cluster.some_batch in
+      no_calls_left node.waiting.calls (each_weaker _ _ node.waiting.calls (λ x way f is. on_way_none n f (way f is)) (m.waits n))
+      (each_both _ (λ (x : WaitingCall). x.fetch ≡ None → is_skipped (setting_at node) x.call ≡ true) _ node.waiting.calls
+      (λ x going skipped free. not_skipped node.limit (fate (setting_at node) x.call) some going (skipped free)) (fates_go config w n h there s) (idle_skips node p.tidy due.idle))
+
+  pub all_quiet : w.coord ≡ opening_coord config.nodes → IsQuiet config w c
+  all_quiet rests = record {
+    all_came = every_came;
+    nodes = λ n.
+        elim (nat_lt n config.nodes) as (λ b. nat_lt n config.nodes ≡ b → is_quiet (w.nodes n) ≡ true) [
+          | true ↦ λ is. let there : n < config.nodes = grind (arith, nat_tests) in quiet_of (w.nodes n) (none_due (w.nodes n) (none.no_dues n there)).batches (calls_none n there) (items_none n there)
+          | false ↦ λ is. let beyond : config.nodes ≤ n = grind (arith, nat_tests) in m.beyond n beyond
+        ] refl;
+    coord = ap (λ x. is_coord_quiet x) rests;
+  }
+
+-- where nothing is fresh after a legal run but Sends, the cluster is quiet
+pub none_is_quiet : (config : Config) (events : List Event) → IsLegal config events → first_reply config events ≡ None → IsQuietAt config (run config events) (came events)
+none_is_quiet config events legal none =
+    elim (run config events) as (λ o. run config events ≡ o → slice_get (fresh_replies_at config o (came events)) 0 ≡ None → IsQuietAt config o (came events)) [
+      | None ↦ λ at e. let wrong : IsSome {T = World} None = subst (λ (o : Option World). IsSome o) at legal.enabled in absurd (cc)
+      | Some w ↦ λ at e.
+          let k = legal_moves config events w legal at in
+          all_quiet config w (came events) legal.cluster k.0.ghost k.0.shows k.1 (none_fresh config w (came events) e) (coord_rests config events w at)
+    ] refl none

@@ -1,0 +1,287 @@
+-- A node goes through its free waiting calls: what holds is kept.
+use Rattle.std.proofs.Common.{◌≡◌, ◌≢◌, inl, inr, ℕ, ◌+◌, ◌<◌, ◌≤◌, true, false, cond, List, [], ◌∷◌, ◌++◌, length, map, Some, None, refl, sym, ap, subst, ◌∙◌, append-nil, append_assoc, arith}
+use Rattle.std.specs.Prelude.{slice_get}
+use Rattle.std.specs.List.{All}
+use Rattle.std.proofs.lemmas.List.{map-append}
+use Rattle.std.proofs.lemmas.Option.{same_Some}
+use Rattle.fal_base.specs.declared.call.Config.{Config}
+use Rattle.fal_base.specs.declared.event.Actor.{Actor}
+use Rattle.fal_base.specs.declared.event.Actor.TheVariants.{Node}
+use Rattle.fal_base.specs.declared.key.Key.{Key}
+use Rattle.fal_batch.specs.declared.parts.Wanted.{Wanted}
+use Rattle.fal_batch.specs.Plan.{is_idle}
+use Rattle.fal_node.specs.declared.batch.Batch.{Batch}
+use Rattle.fal_node.specs.declared.batch.BatchCall.{BatchCall}
+use Rattle.fal_node.specs.declared.event.NodeEvent.TheVariants.{Gather}
+use Rattle.fal_wire.specs.declared.letter.Letter.{Letter}
+use Rattle.fal_node.specs.Deliver.{without_calls}
+use Rattle.fal_node.specs.Gather.{plan_at, setting_at, ask_letter, gather_letters, with_fetches, leaving, batch_calls, with_waiting, batched, with_batch, gathered}
+use Rattle.fal_node.specs.Letters.{Work}
+use Rattle.fal_node.specs.State.{NodeState}
+use Rattle.fal_node.specs.Step.{node_step}
+use Rattle.fal_place.specs.Placement.{owner}
+use Rattle.fal_wait.specs.declared.pending_fetch.PendingFetch.{PendingFetch}
+use Rattle.fal_wait.specs.Waiting.{WaitList}
+use Rattle.fal_wire.specs.declared.message.Found.{Found}
+use Rattle.fal_wire.specs.declared.message.Message.TheVariants as message
+use Rattle.fal_wire.specs.Messages.{Fits}
+use Rattle.fal_story.proofs.Events.GatherPhases.{crossed, open_here, all_stay, phase, moves_at, may_move, reach_new, held_after}
+use Rattle.fal_story.proofs.Events.HeldCalls.{others_held, heard_moves}
+use Rattle.fal_story.proofs.Events.InStep.{view_begun, InStep, Ends, ends, view_in, letter_post, letter_posts, sent_more}
+use Rattle.fal_story.proofs.Events.Shows.{Ghost, Shows, Held, AreSent, IsPlaced, IsTidy, view_of, posts_of, askings_of, pending_calls, calls_in, resting}
+use Rattle.fal_story.proofs.Families.Asking.{IsForKey}
+use Rattle.fal_story.proofs.Good.{Good}
+use Rattle.fal_story.proofs.Families.Asking.{Crosses}
+use Rattle.fal_story.proofs.Families.Clear.{IsShut}
+use Rattle.fal_story.proofs.Lists.Each.{Each}
+use Rattle.fal_story.proofs.Lists.GatherLists.{IsGathered, letters_are, gathered_node}
+use Rattle.fal_story.proofs.Lists.Grown.{put_same, put_put, put_back}
+use Rattle.fal_story.proofs.Lists.Members.{IsIn, in_at, in_map, in_back, each_in, each_by, each_map, apart_map, apart_same}
+use Rattle.fal_story.proofs.Lists.OpenedFetches.{pending_of}
+use Rattle.fal_story.proofs.Phase.{Phase, Waits}
+use Rattle.fal_story.proofs.Steps.Fetching.{IsNewFetch, raised_good, pended_good}
+use Rattle.fal_story.proofs.Steps.Moved.{moved_good}
+use Rattle.fal_story.proofs.Steps.Posted.{posted_good}
+use Rattle.fal_story.proofs.Trees.Standing.{Reaches, table_of}
+use Rattle.fal_story.proofs.View.{View, Post, Asking, IsPosted, now}
+use Rattle.fal_story.specs.Clusters.{IsCluster}
+use Rattle.fal_story.specs.World.{World, put}
+
+-- ---- many fetches are pending
+
+-- nothing has the number yet, and the walks of its waiters come to its key
+abbrev IsPendable : View → ℕ → Asking → Type 0
+IsPendable v n f =
+    (f.number < v.opened n) × ((e p : ℕ) (key : Key) (what : Found) → IsPosted v.posts e (Node n) p (message.FetchGot f.number key what) → ⊥)
+    × ((e p : ℕ) (to : Actor) (key : Key) → IsPosted v.posts e to p (message.FetchAsk n f.number key) → ⊥)
+    × ((l : ℕ) → v.phase l ≡ Waits n (Some f.number) → Reaches (now v) (v.call l) f.key × Crosses (now v) (v.call l) f.key (v.op.crossed l))
+    × (IsShut (v.op.shut n) f.key → ⊥)
+
+all_pended : (config : Config) (v : View) (n : ℕ) (fs : List Asking) → n < config.nodes → n ≢ 255 → Each (IsPendable v n) fs → Good config v → Good config (record v { fetches = put v.fetches n (v.fetches n ++ fs) })
+all_pended config v n [] there other h g =
+    let same : ◌≡◌ {A = ℕ → List Asking} v.fetches (put v.fetches n (v.fetches n ++ [])) = sym (ap (put v.fetches n) (append-nil (v.fetches n)) ∙ put_back v.fetches n) in
+    subst (λ (fetches : ℕ → List Asking). Good config (record v { fetches = fetches })) same g
+all_pended config v n (f ∷ fs) there other h g =
+    let one = put v.fetches n (v.fetches n ++ f ∷ []) in
+    let next = record v { fetches = one } in
+    let new : IsNewFetch config v n f = record { who = inr there; below = h.0.0; no_got = h.0.1; no_ask = h.0.2; reach = h.0.3; off = h.0.4; walks = λ own. absurd (other own) } in
+    let rest = all_pended config next n fs there other h.1 (pended_good config v n f new g) in
+    let same : ◌≡◌ {A = ℕ → List Asking} (put one n (one n ++ fs)) (put v.fetches n (v.fetches n ++ f ∷ fs)) =
+    ap (λ xs. put one n (xs ++ fs)) (put_same v.fetches n (v.fetches n ++ f ∷ [])) ∙ put_put v.fetches n (v.fetches n ++ f ∷ []) ((v.fetches n ++ f ∷ []) ++ fs)
+    ∙ ap (put v.fetches n) (append_assoc (v.fetches n) (f ∷ []) fs) in
+    subst (λ (fetches : ℕ → List Asking). Good config (record v { fetches = fetches })) same rest
+
+-- ---- their owners are asked
+
+abbrev ask : ℕ → ℕ → Config → PendingFetch → Post
+ask n commits config f = record { to = Node (owner (table_of config) f.key); point = commits; message = Some (message.FetchAsk n f.number f.key) }
+
+abbrev IsAskable : Config → View → ℕ → PendingFetch → Type 0
+IsAskable config v n f = (f.number < v.opened n) × IsForKey v.fetches n f.number f.key
+
+all_asked : (config : Config) (v : View) (n commits : ℕ) (fs : List PendingFetch) → n < config.nodes → n ≢ 255 → v.map.table ≡ table_of config → Each (IsAskable config v n) fs → Good config v
+    → Good config (record v { posts = v.posts ++ map (λ f. ask n commits config f) fs })
+all_asked config v n commits [] there other table h g = subst (λ posts. Good config (record v { posts = posts })) (sym (append-nil v.posts)) g
+all_asked config v n commits (f ∷ fs) there other table h g =
+    let one = ask n commits config f in
+    let next = record v { posts = v.posts ++ one ∷ [] } in
+    let first = posted_good config v (Node (owner (table_of config) f.key)) commits (message.FetchAsk n f.number f.key) (record { asking = (inl there, h.0.0, ap (λ t. Node (owner t f.key)) (sym table), h.0.1); records = (owner (table_of config) f.key, refl); operation = λ own. absurd (other own) }) g in
+    subst (λ posts. Good config (record v { posts = posts })) (append_assoc v.posts (one ∷ []) (map (λ x. ask n commits config x) fs)) (all_asked config next n commits fs there other table h.1 first)
+
+-- ---- the node when it has gathered
+
+record IsAfter (x y : NodeState) (after : WaitList) (batch : List BatchCall) : Type 0 where
+  number : y.number ≡ x.number
+  limit : y.limit ≡ x.limit
+  table : y.table ≡ x.table
+  rows : y.rows ≡ x.rows
+  replica : y.replica ≡ x.replica
+  blocked : y.blocked ≡ x.blocked
+  shut : y.locks.shut ≡ x.locks.shut
+  waiting : y.waiting ≡ after
+  items : y.items ≡ x.items
+  drawn : y.drawn ≡ x.drawn
+  batches : calls_in y.batches ≡ calls_in x.batches ++ batch
+
+calls_push : (bs : List Batch) (b : Batch) → b.executed ≡ false → calls_in (bs ++ b ∷ []) ≡ calls_in bs ++ b.calls
+calls_push [] b is = ap (λ e. cond e [] b.calls ++ []) is ∙ append-nil b.calls
+calls_push (c ∷ bs) b is = ap (λ xs. pending_calls c ++ xs) (calls_push bs b is) ∙ sym (append_assoc (pending_calls c) (calls_in bs) b.calls)
+
+after_gather : (x : NodeState) (fetches : List Wanted) (tickets : List ℕ) (batch : List BatchCall) (keys : List Key)
+    → IsAfter x (with_batch (with_waiting x fetches tickets) batch keys) (without_calls (with_fetches x.waiting fetches) tickets) batch
+unfolding with_waiting batched
+after_gather x fetches tickets [] keys = record {
+  number = refl;
+  limit = refl;
+  table = refl;
+  rows = refl;
+  replica = refl;
+  blocked = refl;
+  shut = refl;
+  waiting = refl;
+  items = refl;
+  drawn = refl;
+  batches = sym (append-nil (calls_in x.batches));
+}
+after_gather x fetches tickets (call ∷ calls) keys = record {
+  number = refl;
+  limit = refl;
+  table = refl;
+  rows = refl;
+  replica = refl;
+  blocked = refl;
+  shut = refl;
+  waiting = refl;
+  items = refl;
+  drawn = refl;
+  batches = calls_push x.batches (record { number = x.batches_numbered; calls = call ∷ calls; executed = false }) refl;
+}
+
+-- ---- what is shown then
+
+kept_at : {A : Type 0} (f : ℕ → A) (n : ℕ) (x : A) → x ≡ f n → ◌≡◌ {A = ℕ → A} f (put f n x)
+kept_at f n x is = sym (ap (put f n) is ∙ put_back f n)
+
+ask_posts : (config : Config) (n commits : ℕ) (x : NodeState) (fs : List PendingFetch) → x.number ≡ n → x.table ≡ table_of config
+    → map (λ f. ask n (commits + 0) config f) fs ≡ letter_posts commits (map (λ f. ask_letter x f.number f.key) fs)
+ask_posts config n commits x [] number table = refl
+ask_posts config n commits x (f ∷ fs) number table =
+    let one : ask n (commits + 0) config f ≡ letter_post commits (ask_letter x f.number f.key) =
+    λ i. record { to = Node (owner (sym table i) f.key); point = commits + 0; message = Some (message.FetchAsk (sym number i) f.number f.key) } in
+    λ i. one i ∷ ask_posts config n commits x fs number table i
+
+module _ (config : Config) (w : World) (n : ℕ) (h : Ghost) (there : n < config.nodes) (other : n ≢ 255) (s : Shows config w h) (y : NodeState) (after : WaitList) (opened : List PendingFetch) (batch : List BatchCall)
+    (g : IsGathered (setting_at (w.nodes n)) (w.nodes n).waiting after opened batch) (a : IsAfter (w.nodes n) y after batch) where
+  abbrev later : ℕ → Phase
+  later = phase config w n h there s after opened batch g
+
+  abbrev rests : ℕ → List Key
+  rests = crossed config w n h there s
+
+  abbrev v : View
+  v = view_of config w h
+
+  abbrev moved : View
+  moved = record v { opened = put v.opened n after.opened; phase = later; op = record v.op { crossed = rests } }
+
+  moved_is : Good config moved
+  moved_is = moved_good config (record v { opened = put v.opened n after.opened }) later rests (may_move config w n h there s after opened batch g) (raised_good config v n after.opened g.below s.good)
+
+  new_at : (f : PendingFetch) → IsIn f opened → ((w.nodes n).waiting.opened ≤ f.number) × (f.number < after.opened)
+  new_at f m = each_in (λ (z : PendingFetch). ((w.nodes n).waiting.opened ≤ z.number) × (z.number < after.opened)) opened f g.new m
+
+  below_count : (f : PendingFetch) → IsIn f opened → f.number < put v.opened n after.opened n
+  below_count f m = subst (λ count. f.number < count) (sym (put_same v.opened n after.opened)) (new_at f m).1
+
+  pendable : Each (IsPendable moved n) (askings_of opened)
+  pendable =
+      each_map (IsPendable moved n) (λ (f : PendingFetch). record { number = f.number; key = f.key }) opened
+      (each_by _ opened (λ f m. (
+        below_count f m,
+        λ e p key what sent. let below = s.good.asking.numbers.got e n p f.number key what sent in let new = (new_at f m).0 in absurd (omega arith),
+        λ e p to key sent. let below = (s.good.asking.numbers.ask e p to n f.number key sent).1 in let new = (new_at f m).0 in absurd (omega arith),
+        λ l waits. reach_new config w n h there s after opened batch g l f m waits,
+        λ is. subst (λ shut. IsShut shut f.key) (open_here config w n h there s) is,
+      )))
+
+  abbrev pended : View
+  pended = record moved { fetches = put v.fetches n (v.fetches n ++ askings_of opened) }
+
+  pended_is : Good config pended
+  pended_is = all_pended config moved n (askings_of opened) there other pendable moved_is
+
+  fetches_are : v.fetches n ++ askings_of opened ≡ askings_of after.fetches
+  fetches_are = sym (ap askings_of g.fetches ∙ map-append (λ (f : PendingFetch). record { number = f.number; key = f.key }) (w.nodes n).waiting.fetches opened)
+
+  for_key : (f : PendingFetch) → IsIn f opened → IsForKey pended.fetches n f.number f.key
+  for_key f m j b at same =
+      let found : slice_get (askings_of after.fetches) j ≡ Some b = ap (λ fs. slice_get fs j) (sym (put_same v.fetches n (v.fetches n ++ askings_of opened) ∙ fetches_are)) ∙ at in
+      let here : IsIn f after.fetches = subst (IsIn f) (sym g.fetches) (in_back (w.nodes n).waiting.fetches opened f m) in
+      let one : record { number = f.number; key = f.key } ≡ b =
+      apart_same (λ (z : Asking). z.number) (askings_of after.fetches) (record { number = f.number; key = f.key }) b
+      (apart_map (λ (z : Asking). z.number) (λ (z : PendingFetch). record { number = z.number; key = z.key }) after.fetches g.tidy.apart)
+      (in_map (λ (z : PendingFetch). record { number = z.number; key = z.key }) after.fetches f here) (in_at (askings_of after.fetches) j b found) (sym same) in
+      ap (λ (z : Asking). z.key) one
+
+  asked_is : Good config (record pended { posts = v.posts ++ map (λ f. ask n (length w.commits + 0) config f) opened })
+  asked_is = all_asked config pended n (length w.commits + 0) opened there other refl (each_by _ opened (λ f m. (below_count f m, for_key f m))) pended_is
+
+  abbrev letters : List Letter
+  letters = map (λ f. ask_letter (w.nodes n) f.number f.key) opened
+
+  abbrev work : Work
+  work = record { node = y; sent = letters; notes = [] }
+
+  abbrev then : Ghost
+  then = record h { phase = later; crossed = rests }
+
+  good_is : Good config (view_in config w n work then)
+  good_is = subst (Good config) same asked_is
+    where
+      same : record pended { posts = v.posts ++ map (λ f. ask n (length w.commits + 0) config f) opened } ≡ view_in config w n work then
+      same = λ i. record (view_begun config w n h i) {
+        rows = kept_at v.rows n y.rows a.rows i;
+        replica = kept_at v.replica n y.replica a.replica i;
+        fetches = put v.fetches n ((fetches_are ∙ ap (λ (l : WaitList). askings_of l.fetches) (sym a.waiting)) i);
+        opened = put v.opened n (sym a.waiting i).opened;
+        taken = kept_at v.taken n y.waiting.last (ap (λ (l : WaitList). l.last) a.waiting ∙ g.last) i;
+        drawn = kept_at v.drawn n y.drawn a.drawn i;
+        posts = v.posts ++ ask_posts config n (length w.commits) (w.nodes n) opened (s.placed n).number (s.placed n).table i;
+        phase = later;
+        op = resting (kept_at (λ m. (w.nodes m).locks.shut) n y.locks.shut a.shut i) rests;
+      }
+
+  placed_is : IsPlaced config n y
+  placed_is = record {
+    number = a.number ∙ (s.placed n).number;
+    limit = a.limit ∙ (s.placed n).limit;
+    table = a.table ∙ (s.placed n).table;
+    blocked = a.blocked ∙ (s.placed n).blocked;
+    tidy = subst IsTidy (sym a.waiting) g.tidy;
+  }
+
+  in_step : InStep config w n work then y.waiting.calls (calls_in y.batches)
+  in_step = record {
+    good = good_is;
+    here = subst (Held h.call later n y.waiting.calls) (sym a.batches) (subst (λ (l : WaitList). Held h.call later n l.calls (calls_in (w.nodes n).batches ++ batch)) (sym a.waiting) (held_after config w n h there s after opened batch g));
+    others = others_held w n h.call h.phase later (moves_at config w n h there s after opened batch g) (λ m _. s.held m);
+    items = subst (AreSent (posts_of w.envelopes ++ letter_posts (length w.commits) letters) n) (sym a.items) (sent_more (posts_of w.envelopes) (letter_posts (length w.commits) letters) n (w.nodes n).items (s.items n));
+    others_items = λ m _. s.items m;
+    heard = heard_moves config w n h.call h.phase later (moves_at config w n h there s after opened batch g) s.heard;
+    placed = placed_is;
+    others_placed = λ m _. s.placed m;
+  }
+
+  gather_ends : (sent : List Letter) → sent ≡ letters → All (λ letter. Fits letter.message) sent → Ends config w n (record { node = y; sent = sent; notes = [] })
+  gather_ends sent is =
+      subst (λ (ls : List Letter). All (λ letter. Fits letter.message) ls → Ends config w n (record { node = y; sent = ls; notes = [] })) (sym is)
+      (λ fit. (then, ends config w n work then fit in_step))
+
+-- ---- the event
+
+step_gathered : (x : NodeState) (k : Work) → node_step x Gather ≡ Some k → gathered x (plan_at x) ≡ k
+unfolding node_step
+step_gathered x k =
+    elim (is_idle (plan_at x)) as (λ b. cond b None (Some (gathered x (plan_at x))) ≡ Some k → gathered x (plan_at x) ≡ k) [
+      | true ↦ λ e. absurd (cc)
+      | false ↦ λ e. same_Some (gathered x (plan_at x)) k e
+    ]
+
+gathered_ends : (config : Config) (w : World) (n : ℕ) (h : Ghost) → n < config.nodes → n ≢ 255 → Shows config w h → All (λ letter. Fits letter.message) (gathered (w.nodes n) (plan_at (w.nodes n))).sent
+    → Ends config w n (gathered (w.nodes n) (plan_at (w.nodes n)))
+unfolding gathered
+gathered_ends config w n h there other s fit =
+    let x = w.nodes n in
+    let plan = plan_at x in
+    let stay = all_stay config w n h there s in
+    gather_ends config w n h there other s (with_batch (with_waiting x plan.fetches (leaving plan)) (batch_calls x.waiting plan.calls) plan.keys)
+    (without_calls (with_fetches x.waiting plan.fetches) (leaving plan)) (pending_of x.waiting.opened plan.fetches) (batch_calls x.waiting plan.calls)
+    (gathered_node x (s.placed n).tidy stay) (after_gather x plan.fetches (leaving plan) (batch_calls x.waiting plan.calls) plan.keys)
+    (gather_letters x x.waiting.opened plan.sends) (letters_are x (s.placed n).tidy stay) fit
+
+pub gather_event : (config : Config) (w : World) (n : ℕ) (h : Ghost) (k : Work) → IsCluster config → n < config.nodes → Shows config w h → node_step (w.nodes n) Gather ≡ Some k
+    → All (λ letter. Fits letter.message) k.sent → Ends config w n k
+gather_event config w n h k cluster there s is =
+    let few = cluster.few_nodes in
+    let other : n ≢ 255 = λ own. absurd (omega arith) in
+    subst (λ (j : Work). All (λ letter. Fits letter.message) j.sent → Ends config w n j) (step_gathered (w.nodes n) k is) (gathered_ends config w n h there other s)

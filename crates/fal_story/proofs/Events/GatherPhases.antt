@@ -1,0 +1,344 @@
+-- Where the calls of a node are when it has gathered.
+use Rattle.std.proofs.Common.{◌≡◌, ◌≢◌, ◌⊎◌, inl, inr, ⊎_elim, ℕ, ◌<◌, ◌≤◌, ◌==◌, List, ◌++◌, Option, Some, None, refl, sym, ap, subst, ◌∙◌, arith}
+use Rattle.std.specs.List.{find}
+use Rattle.std.specs.Prelude.{IsTrue}
+use Rattle.std.proofs.lemmas.Option.{same_Some}
+use Rattle.fal_base.specs.declared.call.CallRec.{CallRec}
+use Rattle.fal_base.specs.declared.call.Config.{Config}
+use Rattle.fal_base.specs.declared.event.Actor.TheVariants.{Node}
+use Rattle.fal_base.specs.Tree.{Tree}
+use Rattle.fal_batch.specs.Fate.{Setting, Fate, Skips, Leaves, Joins, fate}
+use Rattle.fal_batch.specs.Fate.{Waits as WaitsFor}
+use Rattle.fal_client.specs.Paths.{addressee}
+use Rattle.fal_node.specs.declared.batch.BatchCall.{BatchCall}
+use Rattle.fal_node.specs.Gather.{setting_at}
+use Rattle.fal_place.specs.Placement.{Placement}
+use Rattle.fal_wait.specs.declared.pending_fetch.PendingFetch.{PendingFetch}
+use Rattle.fal_wait.specs.declared.waiting_call.WaitingCall.{WaitingCall}
+use Rattle.fal_wait.specs.Waiting.{WaitList}
+use Rattle.fal_wire.specs.Ops.{op_field}
+use Rattle.fal_story.proofs.Events.Fates.{IsFate, fate_is}
+use Rattle.fal_story.proofs.Events.HeldCalls.{MovesAt}
+use Rattle.fal_story.proofs.Events.Shows.{Ghost, Shows, Held, WaitsAt, PlannedAt, view_of, lane_of, planned_lane, calls_in}
+use Rattle.fal_story.proofs.Families.Plans.{IsPlanned}
+use Rattle.fal_story.proofs.Lists.Each.{Each, Apart, each_weaker, each_join}
+use Rattle.fal_story.proofs.Lists.GatherLists.{IsKept, IsJoined, IsGathered}
+use Rattle.fal_story.proofs.Lists.GatherPlan.{Stays}
+use Rattle.fal_story.proofs.Lists.Grown.{put_same}
+use Rattle.fal_story.proofs.Lists.Members.{IsIn, each_in, each_by, find_in, find_apart, find_absent, same_number, apart_join, apart_same, apart_back}
+use Rattle.fal_story.proofs.Phase.{Phase, Idle, Asked, Waits, Plans, Runs, Tells, IsFor, IsHeld}
+use Rattle.fal_base.specs.declared.key.Key.{Key}
+use Rattle.fal_story.proofs.Families.Asking.{Crosses}
+use Rattle.fal_story.proofs.Families.Clear.{IsShut}
+use Rattle.fal_story.proofs.Trees.Footprint.{footprint}
+use Rattle.fal_story.proofs.Steps.Moved.{IsClear, MayMove, held_for}
+use Rattle.fal_story.proofs.Trees.Standing.{Reaches, table_of, tree_now}
+use Rattle.fal_story.proofs.View.{View}
+use Rattle.fal_story.specs.Clusters.{is_served}
+use Rattle.fal_story.specs.World.{World, put}
+
+-- ---- phases by lists
+
+abbrev waits_or : ℕ → Option WaitingCall → Phase → Phase
+waits_or n None p = p
+waits_or n (Some w) p = Waits n w.fetch
+
+abbrev plans_or : ℕ → Option BatchCall → Phase → Phase
+plans_or n None p = p
+plans_or n (Some x) p = Plans n x
+
+-- a call of these lists waits or is planned at the node, and any other is where it was
+unfoldable pub listed : ℕ → List WaitingCall → List BatchCall → (ℕ → Phase) → ℕ → Phase
+listed n ws xs phase l = waits_or n (find (λ w. lane_of w == l) ws) (plans_or n (find (λ x. planned_lane x == l) xs) (phase l))
+
+abbrev pub WaitsIn : ℕ → List WaitingCall → ℕ → Phase → Type 0
+WaitsIn n ws l p = (w : WaitingCall) × (IsIn w ws × (lane_of w ≡ l) × (p ≡ Waits n w.fetch))
+
+abbrev pub PlansIn : ℕ → List BatchCall → ℕ → Phase → Type 0
+PlansIn n xs l p = (x : BatchCall) × (IsIn x xs × (planned_lane x ≡ l) × (p ≡ Plans n x))
+
+abbrev pub IsListed : ℕ → List WaitingCall → List BatchCall → Phase → ℕ → Phase → Type 0
+IsListed n ws xs was l p = (p ≡ was) ⊎ (WaitsIn n ws l p ⊎ PlansIn n xs l p)
+
+plans_cases : (n : ℕ) (ws : List WaitingCall) (xs : List BatchCall) (was : Phase) (l : ℕ) → IsListed n ws xs was l (plans_or n (find (λ x. planned_lane x == l) xs) was)
+plans_cases n ws xs was l =
+    elim (find (λ x. planned_lane x == l) xs) as (λ o. find (λ x. planned_lane x == l) xs ≡ o → IsListed n ws xs was l (plans_or n o was)) [
+      | None ↦ λ e. inl refl
+      | Some x ↦ λ e. let found = find_in (λ y. planned_lane y == l) xs x e in inr (inr (x, (found.1, same_number (planned_lane x) l found.0, refl)))
+    ] refl
+
+pub listed_cases : (n : ℕ) (ws : List WaitingCall) (xs : List BatchCall) (phase : ℕ → Phase) (l : ℕ) → IsListed n ws xs (phase l) l (listed n ws xs phase l)
+unfolding listed
+listed_cases n ws xs phase l =
+    elim (find (λ w. lane_of w == l) ws) as (λ o. find (λ w. lane_of w == l) ws ≡ o → IsListed n ws xs (phase l) l (waits_or n o (plans_or n (find (λ x. planned_lane x == l) xs) (phase l)))) [
+      | None ↦ λ e. plans_cases n ws xs (phase l) l
+      | Some w ↦ λ e. let found = find_in (λ y. lane_of y == l) ws w e in inr (inl (w, (found.1, same_number (lane_of w) l found.0, refl)))
+    ] refl
+
+pub listed_waits : (n : ℕ) (ws : List WaitingCall) (xs : List BatchCall) (phase : ℕ → Phase) (w : WaitingCall) → Apart lane_of ws → IsIn w ws → listed n ws xs phase (lane_of w) ≡ Waits n w.fetch
+unfolding listed
+listed_waits n ws xs phase w apart m = ap (λ o. waits_or n o (plans_or n (find (λ x. planned_lane x == lane_of w) xs) (phase (lane_of w)))) (find_apart lane_of ws w apart m)
+
+pub listed_plans : (n : ℕ) (ws : List WaitingCall) (xs : List BatchCall) (phase : ℕ → Phase) (x : BatchCall) → Each (λ w. lane_of w ≢ planned_lane x) ws → Apart planned_lane xs → IsIn x xs
+    → listed n ws xs phase (planned_lane x) ≡ Plans n x
+unfolding listed
+listed_plans n ws xs phase x others apart m =
+    ap (λ o. waits_or n o (plans_or n (find (λ y. planned_lane y == planned_lane x) xs) (phase (planned_lane x)))) (find_absent lane_of (planned_lane x) ws others)
+    ∙ ap (λ o. plans_or n o (phase (planned_lane x))) (find_apart planned_lane xs x apart m)
+
+waits_same : (m n : ℕ) (a b : Option ℕ) → Waits m a ≡ Waits n b → a ≡ b
+waits_same m n a b e = cc
+
+-- ---- the keys on which calls rest
+
+-- those of the walk, for a call that was free; those that there were, for each other
+abbrev pub crossed_from : List Key → List Key → Phase → List Key
+crossed_from walked kept (Waits m None) = walked
+crossed_from walked kept other = kept
+
+-- a call that stays where it is keeps its keys, or needs none
+still_moves : (config : Config) (v : View) (l : ℕ) (walked kept : List Key) (p q : Phase) → q ≡ p → ((q ≡ p) × (kept ≡ crossed_from walked kept p)) ⊎ MayMove config v l p q (crossed_from walked kept p)
+still_moves config v l walked kept Idle q same = inl (same, refl)
+still_moves config v l walked kept (Asked m) q same = inl (same, refl)
+still_moves config v l walked kept (Waits m None) q same = inr (subst (λ z. MayMove config v l (Waits m None) z walked) (sym same) refl)
+still_moves config v l walked kept (Waits m (Some number)) q same = inl (same, refl)
+still_moves config v l walked kept (Plans m x) q same = inl (same, refl)
+still_moves config v l walked kept Runs q same = inl (same, refl)
+still_moves config v l walked kept (Tells answer) q same = inl (same, refl)
+
+-- ---- the fates of free calls
+
+stays_of : (table : Placement) (tree : Tree) (n : ℕ) (call : CallRec) (f : Fate) → IsFate table tree n call f → Stays f
+stays_of table tree n call Skips is = absurd is
+stays_of table tree n call (Leaves to) is = absurd is
+stays_of table tree n call (WaitsFor key) is = tt
+stays_of table tree n call (Joins denied parent last keys) is = tt
+
+module _ (config : Config) (w : World) (n : ℕ) (h : Ghost) (there : n < config.nodes) (s : Shows config w h) where
+  abbrev list : WaitList
+  list = (w.nodes n).waiting
+
+  abbrev tree : Tree
+  tree = tree_now w.commits
+
+  abbrev setting : Setting
+  setting = setting_at (w.nodes n)
+
+  waits_at : (c : WaitingCall) → IsIn c list.calls → WaitsAt h.call h.phase n c
+  waits_at c m = each_in (WaitsAt h.call h.phase n) list.calls c (s.held n).waiters m
+
+  -- nothing is shut
+  pub open_here : (w.nodes n).locks.shut ≡ None
+  open_here = (s.good.operation.stands n there).1
+
+  -- a call that waited for nothing may rest on other keys
+  abbrev pub crossed : ℕ → List Key
+  crossed l = crossed_from (footprint tree (h.call l)) (h.crossed l) (h.phase l)
+
+  fate_at : (c : WaitingCall) → IsIn c list.calls → IsFate (table_of config) tree n c.call (fate setting c.call)
+  fate_at c m =
+      let at = waits_at c m in
+      let l = lane_of c in
+      let busy : h.phase l ≢ Idle = λ e. let wrong : Idle ≡ Waits n c.fetch = sym e ∙ at.0 in absurd (cc) in
+      let here : IsFor n (h.phase l) = subst (IsFor n) (sym at.0) refl in
+      fate_is config n (w.nodes n) tree c.call (s.placed n) open_here (s.good.ground.replicas n)
+      (subst (λ (k : CallRec). addressee (table_of config) k.op ≡ Node n) (sym at.1) (s.good.lanes.routed l n there here))
+      (subst (λ (k : CallRec). IsTrue (is_served k.op)) (sym at.1) (s.good.lanes.under_way.served l busy))
+      (subst (λ (k : CallRec). op_field.Fits k.op) (sym at.1) (s.good.lanes.under_way.fits l busy))
+
+  -- no call leaves the node
+  pub all_stay : Each (λ c. c.fetch ≡ None → Stays (fate setting c.call)) list.calls
+  all_stay = each_by _ list.calls (λ c m _. stays_of (table_of config) tree n c.call (fate setting c.call) (fate_at c m))
+
+  module _ (after : WaitList) (opened : List PendingFetch) (batch : List BatchCall) (g : IsGathered setting list after opened batch) where
+    abbrev pub phase : ℕ → Phase
+    phase = listed n after.calls batch h.phase
+
+    lanes : Apart lane_of list.calls
+    lanes = (s.held n).waiters_apart
+
+    -- a call that waits still waited before
+    kept_was : (c : WaitingCall) → IsIn c after.calls → (was : WaitingCall) × (IsIn was list.calls × (c.call ≡ was.call))
+    kept_was c m =
+        let k = each_in (IsKept setting list opened) after.calls c g.kept m in
+        (k.0, (k.1.0, ⊎_elim (λ e. ap (λ (y : WaitingCall). y.call) e) (λ e. ap (λ (y : WaitingCall). y.call) e.1.1.2) k.1.1))
+
+    -- and waits as the lists say
+    kept_held : (l : ℕ) → WaitsIn n after.calls l (phase l) → IsHeld n (h.phase l)
+    kept_held l y =
+        let was = kept_was y.0 y.1.0 in
+        let lane : lane_of was.0 ≡ l = ap (λ (c : CallRec). c.id.client) (sym was.1.1) ∙ y.1.1 in
+        subst (λ i. IsHeld n (h.phase i)) lane (subst (IsHeld n) (sym (waits_at was.0 was.1.0).0) refl)
+
+    joined_held : (l : ℕ) → PlansIn n batch l (phase l) → IsHeld n (h.phase l)
+    joined_held l y =
+        let j = each_in (IsJoined setting list) batch y.0 g.joined y.1.0 in
+        let lane : lane_of j.0 ≡ l = ap (λ (c : CallRec). c.id.client) (sym j.1.2) ∙ y.1.1 in
+        subst (λ i. IsHeld n (h.phase i)) lane (subst (IsHeld n) (sym (waits_at j.0 j.1.0).0) refl)
+
+    pub moves_at : MovesAt n h.phase phase
+    moves_at l =
+        ⊎_elim
+        (λ same. inl same)
+        (λ y. ⊎_elim
+        (λ z. inr (held_for n (h.phase l) (kept_held l z), λ e. let wrong : Idle ≡ Waits n z.0.fetch = sym e ∙ z.1.2 in absurd (cc)))
+        (λ z. inr (held_for n (h.phase l) (joined_held l z), λ e. let wrong : Idle ≡ Plans n z.0 = sym e ∙ z.1.2 in absurd (cc)))
+        y)
+        (listed_cases n after.calls batch h.phase l)
+
+    -- ---- the new fetches
+
+    old_below : (l number : ℕ) → h.phase l ≡ Waits n (Some number) → number < list.opened
+    old_below l number e = s.good.asking.waits_drawn l n number e
+
+    numbers_apart : Apart (λ f. f.number) opened
+    numbers_apart = apart_back (λ (f : PendingFetch). f.number) list.fetches opened (subst (Apart (λ (f : PendingFetch). f.number)) g.fetches g.tidy.apart)
+
+    -- the walk of a call comes to a key, by keys on which the call rests
+    abbrev pub ComesTo : CallRec → List Key → Key → Type 0
+    ComesTo call keys key = Reaches tree call key × Crosses tree call key keys
+
+    free_crossed : (l m : ℕ) → h.phase l ≡ Waits m None → footprint tree (h.call l) ≡ crossed l
+    free_crossed l m e = ap (crossed_from (footprint tree (h.call l)) (h.crossed l)) (sym e)
+
+    -- a call that waits on a new fetch was free, and its walk comes to the key
+    kept_reach : (l : ℕ) (f : PendingFetch) → IsIn f opened → WaitsIn n after.calls l (Waits n (Some f.number)) → ComesTo (h.call l) (crossed l) f.key
+    kept_reach l f m y =
+        let c = y.0 in
+        let k = each_in (IsKept setting list opened) after.calls c g.kept y.1.0 in
+        let was = k.0 in
+        let at = waits_at was k.1.0 in
+        let fetch : Some f.number ≡ c.fetch = waits_same n n (Some f.number) c.fetch y.1.2 in
+        ⊎_elim
+        (λ e.
+        let before : h.phase (lane_of was) ≡ Waits n (Some f.number) = at.0 ∙ ap (Waits n) (ap (λ (z : WaitingCall). z.fetch) (sym e) ∙ sym fetch) in
+        let below = old_below (lane_of was) f.number before in
+        let new = (each_in (λ (z : PendingFetch). (list.opened ≤ z.number) × (z.number < after.opened)) opened f g.new m).0 in
+        absurd (omega arith))
+        (λ e.
+        let other = e.1.0 in
+        let number : f.number ≡ other.number = same_Some f.number other.number (fetch ∙ ap (λ (z : WaitingCall). z.fetch) e.1.1.2) in
+        let same : other ≡ f = apart_same (λ (z : PendingFetch). z.number) opened other f numbers_apart e.1.1.0 m (sym number) in
+        let reach : ComesTo was.call (footprint tree was.call) other.key = subst (IsFate (table_of config) tree n was.call) e.1.1.1 (fate_at was k.1.0) in
+        let lane : lane_of was ≡ l = ap lane_of (sym e.1.1.2) ∙ y.1.1 in
+        let free : h.phase l ≡ Waits n None = ap h.phase (sym lane) ∙ at.0 ∙ ap (Waits n) e.0 in
+        let at_key : ComesTo was.call (footprint tree was.call) f.key = subst (λ (z : PendingFetch). ComesTo was.call (footprint tree was.call) z.key) same reach in
+        let at_call : ComesTo (h.call l) (footprint tree (h.call l)) f.key = subst (λ (z : CallRec). ComesTo z (footprint tree z) f.key) (at.1 ∙ ap h.call lane) at_key in
+        subst (λ keys. ComesTo (h.call l) keys f.key) (free_crossed l n free) at_call)
+        k.1.1
+
+    -- who waits on a new fetch has come to its key
+    pub reach_new : (l : ℕ) (f : PendingFetch) → IsIn f opened → phase l ≡ Waits n (Some f.number) → ComesTo (h.call l) (crossed l) f.key
+    reach_new l f m e =
+        let new = (each_in (λ (z : PendingFetch). (list.opened ≤ z.number) × (z.number < after.opened)) opened f g.new m).0 in
+        ⊎_elim
+        (λ same. let below = old_below l f.number (sym same ∙ e) in absurd (omega arith))
+        (λ y. ⊎_elim
+        (λ z. kept_reach l f m (z.0, (z.1.0, z.1.1, sym e ∙ z.1.2)))
+        (λ z. let wrong : Waits n (Some f.number) ≡ Plans n z.0 = sym e ∙ z.1.2 in absurd (cc))
+        y)
+        (listed_cases n after.calls batch h.phase l)
+
+    -- ---- each move is allowed
+
+    abbrev risen : View
+    risen = record (view_of config w h) { opened = put (view_of config w h).opened n after.opened }
+
+    all_open : (l : ℕ) → IsClear risen n (crossed l)
+    all_open l key among is = subst (λ s. IsShut s key) open_here is
+
+    waits_move : (l : ℕ) (q : Phase) → WaitsIn n after.calls l q → (q ≡ h.phase l) ⊎ MayMove config risen l (h.phase l) q (crossed l)
+    waits_move l q y =
+        let c = y.0 in
+        let k = each_in (IsKept setting list opened) after.calls c g.kept y.1.0 in
+        let was = k.0 in
+        let at = waits_at was k.1.0 in
+        ⊎_elim
+        (λ e.
+        let lane : lane_of was ≡ l = ap lane_of (sym e) ∙ y.1.1 in
+        inl (y.1.2 ∙ ap (λ (z : WaitingCall). Waits n z.fetch) e ∙ sym at.0 ∙ ap h.phase lane))
+        (λ e.
+        let f = e.1.0 in
+        let lane : lane_of was ≡ l = ap lane_of (sym e.1.1.2) ∙ y.1.1 in
+        let is : q ≡ Waits n (Some f.number) = y.1.2 ∙ ap (λ (z : WaitingCall). Waits n z.fetch) e.1.1.2 in
+        let held : IsHeld n (h.phase l) = subst (λ i. IsHeld n (h.phase i)) lane (subst (IsHeld n) (sym at.0) refl) in
+        let new = each_in (λ (z : PendingFetch). (list.opened ≤ z.number) × (z.number < after.opened)) opened f g.new e.1.1.0 in
+        inr (subst (λ p. MayMove config risen l (h.phase l) p (crossed l)) (sym is) (
+          held,
+          subst (λ m. f.number < m) (sym (put_same (view_of config w h).opened n after.opened)) new.1,
+          λ j a at_place same. let below = (s.good.asking.fetches n j a at_place).0 in let low = new.0 in absurd (omega arith),
+          all_open l,
+        )))
+        k.1.1
+
+    plans_move : (l : ℕ) (q : Phase) → PlansIn n batch l q → MayMove config risen l (h.phase l) q (crossed l)
+    plans_move l q y =
+        let x = y.0 in
+        let j = each_in (IsJoined setting list) batch x g.joined y.1.0 in
+        let at = waits_at j.0 j.1.0 in
+        let lane : lane_of j.0 ≡ l = ap (λ (c : CallRec). c.id.client) (sym j.1.2) ∙ y.1.1 in
+        let held : IsHeld n (h.phase l) = subst (λ i. IsHeld n (h.phase i)) lane (subst (IsHeld n) (sym at.0) refl) in
+        let free : h.phase l ≡ Waits n None = ap h.phase (sym lane) ∙ at.0 ∙ ap (Waits n) j.1.1 in
+        let planned : IsPlanned (table_of config) tree n j.0.call (footprint tree j.0.call) (record { call = j.0.call; denied = x.denied; parent = x.parent; last = x.last })
+        = subst (IsFate (table_of config) tree n j.0.call) j.1.3.1 (fate_at j.0 j.1.0) in
+        let own : IsPlanned (table_of config) tree n x.call (footprint tree x.call) x
+        = subst (λ (c : CallRec). IsPlanned (table_of config) tree n c (footprint tree c) (record { call = c; denied = x.denied; parent = x.parent; last = x.last })) (sym j.1.2) planned in
+        let call : x.call ≡ h.call l = j.1.2 ∙ at.1 ∙ ap h.call lane in
+        let by_lane : IsPlanned (table_of config) tree n (h.call l) (footprint tree (h.call l)) x = subst (λ c. IsPlanned (table_of config) tree n c (footprint tree c) x) call own in
+        subst (λ p. MayMove config risen l (h.phase l) p (crossed l)) (sym y.1.2)
+        (held, there, subst (λ keys. IsPlanned (table_of config) tree n (h.call l) keys x) (free_crossed l n free) by_lane, all_open l)
+
+    still : (l : ℕ) → phase l ≡ h.phase l → ((phase l ≡ h.phase l) × (h.crossed l ≡ crossed l)) ⊎ MayMove config risen l (h.phase l) (phase l) (crossed l)
+    still l same = still_moves config risen l (footprint tree (h.call l)) (h.crossed l) (h.phase l) (phase l) same
+
+    pub may_move : (l : ℕ) → ((phase l ≡ h.phase l) × (h.crossed l ≡ crossed l)) ⊎ MayMove config risen l (h.phase l) (phase l) (crossed l)
+    may_move l =
+        ⊎_elim
+        (λ same. still l same)
+        (λ y. ⊎_elim (λ z. ⊎_elim (λ same. still l same) (λ moves. inr moves) (waits_move l (phase l) z)) (λ z. inr (plans_move l (phase l) z)) y)
+        (listed_cases n after.calls batch h.phase l)
+
+    -- ---- the calls that are kept
+
+    waiters : Each (WaitsAt h.call phase n) after.calls
+    waiters =
+        each_by _ after.calls (λ c m.
+        let was = kept_was c m in
+        (listed_waits n after.calls batch h.phase c (g.kept_apart lanes) m, was.1.1 ∙ (waits_at was.0 was.1.0).1 ∙ ap (λ (k : CallRec). h.call k.id.client) (sym was.1.1)))
+
+    new_planned : Each (PlannedAt h.call phase n) batch
+    new_planned =
+        each_by _ batch (λ x m.
+        let j = each_in (IsJoined setting list) batch x g.joined m in
+        let others = each_by (λ c. lane_of c ≢ planned_lane x) after.calls (λ c cm e. each_in (λ z. planned_lane z ≢ lane_of c) batch x (each_in _ after.calls c (g.both_apart lanes) cm) m (sym e)) in
+        (listed_plans n after.calls batch h.phase x others (g.joined_apart lanes) m, j.1.2 ∙ (waits_at j.0 j.1.0).1 ∙ ap (λ (k : CallRec). h.call k.id.client) (sym j.1.2)))
+
+    -- a planned call is none of those that waited
+    not_waiting : (x : BatchCall) (c : WaitingCall) → PlannedAt h.call h.phase n x → IsIn c list.calls → lane_of c ≡ planned_lane x → ⊥
+    not_waiting x c at m e = let wrong : Plans n x ≡ Waits n c.fetch = sym at.0 ∙ ap h.phase (sym e) ∙ (waits_at c m).0 in absurd (cc)
+
+    old_planned : (xs : List BatchCall) → Each (PlannedAt h.call h.phase n) xs → Each (PlannedAt h.call phase n) xs
+    old_planned xs at =
+        each_weaker _ _ xs (λ x a. (
+          ⊎_elim
+              (λ same. same ∙ a.0)
+              (λ y. ⊎_elim
+              (λ z. let was = kept_was z.0 z.1.0 in absurd (not_waiting x was.0 a was.1.0 (ap (λ (k : CallRec). k.id.client) (sym was.1.1) ∙ z.1.1)))
+              (λ z. let j = each_in (IsJoined setting list) batch z.0 g.joined z.1.0 in absurd (not_waiting x j.0 a j.1.0 (ap (λ (k : CallRec). k.id.client) (sym j.1.2) ∙ z.1.1)))
+              y)
+              (listed_cases n after.calls batch h.phase (planned_lane x)),
+          a.1,
+        )) at
+
+    pub held_after : Held h.call phase n after.calls (calls_in (w.nodes n).batches ++ batch)
+    held_after = record {
+      waiters = waiters;
+      planned = each_join (PlannedAt h.call phase n) (calls_in (w.nodes n).batches) batch (old_planned (calls_in (w.nodes n).batches) (s.held n).planned) new_planned;
+      waiters_apart = g.kept_apart lanes;
+      planned_apart = apart_join planned_lane (calls_in (w.nodes n).batches) batch
+          (each_weaker _ _ (calls_in (w.nodes n).batches) (λ x a. each_by (λ y. planned_lane y ≢ planned_lane x) batch (λ y m e.
+          let j = each_in (IsJoined setting list) batch y g.joined m in
+          not_waiting x j.0 a j.1.0 (ap (λ (k : CallRec). k.id.client) (sym j.1.2) ∙ e)))
+          (s.held n).planned)
+          (s.held n).planned_apart (g.joined_apart lanes);
+    }

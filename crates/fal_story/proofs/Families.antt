@@ -1,0 +1,14 @@
+pub mod Asking
+pub mod Clear
+pub mod Ground
+pub mod Lanes
+pub mod Operation
+pub mod OperationCalls
+pub mod OperationEnds
+pub mod OperationNodes
+pub mod OperationRows
+pub mod Plans
+pub mod Records
+pub mod Script
+pub mod Stages
+pub mod Told

@@ -1,0 +1,157 @@
+-- A run has no more commits than the cluster has calls.
+use Rattle.std.proofs.Common.{◌≡◌, ◌≢◌, inl, inr, ⊎_elim, ℕ, zero, suc, ◌+◌, ◌≤◌, List, [], ◌∷◌, ◌++◌, length, Some, None, refl, sym, ap, ◌∙◌, subst, arith}
+use Rattle.std.specs.Prelude.{slice_get, sum_by}
+use Rattle.std.proofs.lemmas.List.{length-append}
+use Rattle.std.proofs.lemmas.List.Sums.{sum_by-cons}
+use Rattle.fal_base.specs.declared.call.Call.{Call}
+use Rattle.fal_base.specs.declared.call.Config.{Config}
+use Rattle.fal_base.specs.declared.entry.Entry.{Entry}
+use Rattle.fal_base.specs.declared.entry.Entry.TheVariants as entry
+use Rattle.fal_base.specs.Commits.{Commit}
+use Rattle.fal_base.specs.EachOnce.{NotCommitted}
+use Rattle.fal_base.specs.Transcript.{numbered, lane_call, call_of, commit_by, commits_of}
+use Rattle.fal_story.proofs.Events.Shows.{Ghost, Shows}
+use Rattle.fal_story.proofs.Lists.Each.{Each, each_both, each_join}
+use Rattle.fal_story.proofs.Lists.Members.{IsIn, in_front}
+use Rattle.fal_story.specs.Clusters.{IsCluster}
+use Rattle.fal_story.specs.World.{World}
+
+-- ---- items that differ, each of which stands in a list, are no more than the list has
+
+-- what is left of a list without one of its items
+record IsLeft (A : Type 0) (x : A) (ys : List A) : Type 0 where
+  rest : List A
+  shorter : length ys ≡ suc (length rest)
+  others : (y : A) → y ≢ x → IsIn y ys → IsIn y rest
+
+taken : {A : Type 0} (x : A) (ys : List A) → IsIn x ys → IsLeft A x ys
+taken x [] m = absurd m
+taken x (z ∷ ys) (inl e) = record { rest = ys; shorter = refl; others = λ y ne m. ⊎_elim (λ same. absurd (ne (sym same ∙ e))) (λ r. r) m }
+taken x (z ∷ ys) (inr m) =
+    let t = taken x ys m in
+    record { rest = z ∷ t.rest; shorter = ap suc t.shorter; others = λ y ne n. ⊎_elim (λ same. inl same) (λ r. inr (t.others y ne r)) n }
+
+-- no two are the same in this
+abbrev pub Differ : {A B : Type 0} → (A → B) → List A → Type 0
+Differ f [] = Unit {0}
+Differ f (x ∷ xs) = Each (λ y. f y ≢ f x) xs × Differ f xs
+
+pub no_more : {A B : Type 0} (f : A → B) (xs : List A) (ys : List B) → Differ f xs → Each (λ x. IsIn (f x) ys) xs → length xs ≤ length ys
+no_more f [] ys apart among = omega arith
+no_more f (x ∷ xs) ys apart among =
+    let t = taken (f x) ys among.0 in
+    let shorter = t.shorter in
+    let rest = no_more f xs t.rest apart.1 (each_both _ _ _ xs (λ y ne m. t.others (f y) ne m) apart.0 among.1) in
+    omega arith
+
+-- ---- the calls of a cluster, by lane and number
+
+calls_from : ℕ → ℕ → List Call → List (ℕ × ℕ)
+calls_from lane seq [] = []
+calls_from lane seq (call ∷ calls) = (lane, seq) ∷ calls_from lane (suc seq) calls
+
+lanes_from : ℕ → List (List Call) → List (ℕ × ℕ)
+lanes_from lane [] = []
+lanes_from lane (calls ∷ lanes) = calls_from lane 1 calls ++ lanes_from (suc lane) lanes
+
+calls_length : (lane seq : ℕ) (calls : List Call) → length (calls_from lane seq calls) ≡ length calls
+unfolding calls_from
+calls_length lane seq [] = refl
+calls_length lane seq (call ∷ calls) = ap suc (calls_length lane (suc seq) calls)
+
+lanes_length : (lane : ℕ) (lanes : List (List Call)) → length (lanes_from lane lanes) ≡ sum_by (λ (calls : List Call). length calls) lanes
+unfolding lanes_from
+lanes_length lane [] = refl
+lanes_length lane (calls ∷ lanes) =
+    let here = calls_length lane 1 calls in
+    let rest = lanes_length (suc lane) lanes in
+    let both = length-append (calls_from lane 1 calls) (lanes_from (suc lane) lanes) in
+    let sum = sum_by-cons (λ (calls : List Call). length calls) calls lanes in
+    omega arith
+
+call_among : (lane seq : ℕ) (calls : List Call) (k : ℕ) (call : Call) → slice_get calls k ≡ Some call → IsIn (lane, seq + k) (calls_from lane seq calls)
+unfolding calls_from
+call_among lane seq [] k call is = absurd (cc)
+call_among lane seq (c ∷ calls) zero call is = inl (let here : seq ≡ seq + zero = omega arith in λ i. (lane, here i))
+call_among lane seq (c ∷ calls) (suc k) call is =
+    inr (let here : suc seq + k ≡ seq + suc k = omega arith in subst (λ s. IsIn (lane, s) (calls_from lane (suc seq) calls)) here (call_among lane (suc seq) calls k call is))
+
+lane_among : (lane seq : ℕ) (calls : List Call) (call : Call) → numbered calls seq ≡ Some call → IsIn (lane, seq) (calls_from lane 1 calls)
+lane_among lane zero calls call is = absurd (cc)
+lane_among lane (suc k) calls call is = let here : 1 + k ≡ suc k = omega arith in subst (λ s. IsIn (lane, s) (calls_from lane 1 calls)) here (call_among lane 1 calls k call is)
+
+in_back : {A : Type 0} (xs ys : List A) (x : A) → IsIn x ys → IsIn x (xs ++ ys)
+in_back [] ys x m = m
+in_back (z ∷ xs) ys x m = inr (in_back xs ys x m)
+
+among_lanes : (lane : ℕ) (lanes : List (List Call)) (k seq : ℕ) (call : Call) → lane_call (slice_get lanes k) seq ≡ Some call → IsIn (lane + k, seq) (lanes_from lane lanes)
+unfolding lanes_from
+among_lanes lane [] k seq call is = absurd (cc)
+among_lanes lane (calls ∷ lanes) zero seq call is =
+    let here : lane ≡ lane + zero = omega arith in
+    subst (λ l. IsIn (l, seq) (calls_from lane 1 calls ++ lanes_from (suc lane) lanes)) here (in_front _ (lanes_from (suc lane) lanes) _ (lane_among lane seq calls call is))
+among_lanes lane (calls ∷ lanes) (suc k) seq call is =
+    let here : suc lane + k ≡ lane + suc k = omega arith in
+    subst (λ l. IsIn (l, seq) (calls_from lane 1 calls ++ lanes_from (suc lane) lanes)) here (in_back (calls_from lane 1 calls) _ _ (among_lanes (suc lane) lanes k seq call is))
+
+call_in : (config : Config) (lane seq : ℕ) (call : Call) → call_of config lane seq ≡ Some call → IsIn (lane, seq) (lanes_from 1 config.lanes)
+call_in config zero seq call is = absurd (cc)
+call_in config (suc k) seq call is = let here : 1 + k ≡ suc k = omega arith in subst (λ l. IsIn (l, seq) (lanes_from 1 config.lanes)) here (among_lanes 1 config.lanes k seq call is)
+
+-- ---- the commits of a transcript
+
+abbrev of_call : Commit → ℕ × ℕ
+of_call c = (c.lane, c.seq)
+
+-- each commit is of an entry and of a call
+commits_each : (config : Config) (P : Commit → Type 0) (es : List Entry)
+    → ((j lane seq ino : ℕ) (call : Call) → slice_get es j ≡ Some (entry.Commit lane seq ino) → call_of config lane seq ≡ Some call → P (record { lane = lane; seq = seq; cred = call.cred; op = call.op; ino = ino }))
+    → Each P (commits_of config es)
+commits_each config P [] h = tt
+commits_each config P (entry.Commit lane seq ino ∷ es) h =
+    each_join P (commit_by (call_of config lane seq) lane seq ino) (commits_of config es)
+    (elim (call_of config lane seq) as (λ o. call_of config lane seq ≡ o → Each P (commit_by o lane seq ino)) [ None ↦ λ _. tt | Some call ↦ λ is. (h 0 lane seq ino call refl is, tt) ] refl)
+    (commits_each config P es (λ j. h (suc j)))
+commits_each config P (entry.Sent lane seq ∷ es) h = commits_each config P es (λ j. h (suc j))
+commits_each config P (entry.Opened lane seq ino point ∷ es) h = commits_each config P es (λ j. h (suc j))
+commits_each config P (entry.Placed lane seq version ∷ es) h = commits_each config P es (λ j. h (suc j))
+commits_each config P (entry.Stale lane seq old new ∷ es) h = commits_each config P es (λ j. h (suc j))
+commits_each config P (entry.Answered lane seq point reply ∷ es) h = commits_each config P es (λ j. h (suc j))
+
+-- no call has two commits
+abbrev CommitOnce : List Entry → Type 0
+CommitOnce es = (j lane seq ino : ℕ) → slice_get es j ≡ Some (entry.Commit lane seq ino) → NotCommitted es j lane seq
+
+once_rest : (e : Entry) (es : List Entry) → CommitOnce (e ∷ es) → CommitOnce es
+once_rest e es h j lane seq ino at i other lt is = h (suc j) lane seq ino at (suc i) other (omega arith) is
+
+same_lane : (a b c d : ℕ) → ◌≡◌ {A = ℕ × ℕ} (a, b) (c, d) → (a ≡ c) × (b ≡ d)
+same_lane a b c d e = (ap (λ x. x.0) e, ap (λ x. x.1) e)
+
+commits_differ : (config : Config) (es : List Entry) → CommitOnce es → Differ of_call (commits_of config es)
+commits_differ config [] once = tt
+commits_differ config (entry.Commit lane seq ino ∷ es) once = elim (call_of config lane seq) as (λ o. Differ of_call (commit_by o lane seq ino ++ commits_of config es)) [
+  | None ↦ commits_differ config es (once_rest _ es once)
+  | Some call ↦ (
+    commits_each config (λ c. of_call c ≢ (lane, seq)) es
+        (λ j l s i d at _ same.
+        let is = same_lane lane seq l s (sym same) in
+        once (suc j) l s i at 0 ino (omega arith) (λ k. Some (entry.Commit (is.0 k) (is.1 k) ino))),
+    commits_differ config es (once_rest _ es once),
+  )
+]
+commits_differ config (entry.Sent lane seq ∷ es) once = commits_differ config es (once_rest _ es once)
+commits_differ config (entry.Opened lane seq ino point ∷ es) once = commits_differ config es (once_rest _ es once)
+commits_differ config (entry.Placed lane seq version ∷ es) once = commits_differ config es (once_rest _ es once)
+commits_differ config (entry.Stale lane seq old new ∷ es) once = commits_differ config es (once_rest _ es once)
+commits_differ config (entry.Answered lane seq point reply ∷ es) once = commits_differ config es (once_rest _ es once)
+
+pub few_commits : (config : Config) (w : World) (h : Ghost) → IsCluster config → Shows config w h → length w.commits ≤ 10000
+few_commits config w h cluster shows =
+    let once : CommitOnce w.entries = λ j lane seq ino at. (shows.good.script.once.each.committed j lane seq ino at).1 in
+    let no_more_than = no_more of_call (commits_of config w.entries) (lanes_from 1 config.lanes) (commits_differ config w.entries once)
+    (commits_each config (λ c. IsIn (of_call c) (lanes_from 1 config.lanes)) w.entries (λ j lane seq ino call _ is. call_in config lane seq call is)) in
+    let all = lanes_length 1 config.lanes in
+    let few = cluster.few_calls in
+    let same : length w.commits ≡ length (commits_of config w.entries) = ap length shows.good.script.joined.same in
+    omega arith

@@ -1,0 +1,205 @@
+-- A node to which a record comes keeps to the ranges.
+use Rattle.std.proofs.Common.{◌≡◌, ⊎_elim, ℕ, ◌+◌, true, false, cond, List, [], ◌∷◌, length, Option, Some, None, Result, Ok, refl, sym, ap, subst, ◌∙◌, arith}
+use Rattle.std.specs.Prelude.{is_some}
+use Rattle.std.proofs.lemmas.Option.{same_Some}
+use Rattle.fal_base.specs.declared.call.CallRec.{CallRec}
+use Rattle.fal_base.specs.declared.event.Envelope.{Envelope}
+use Rattle.fal_base.specs.declared.inode.Dentry.{Dentry}
+use Rattle.fal_base.specs.declared.key.Key.{Key}
+use Rattle.fal_base.specs.declared.reply.Errno.{Errno}
+use Rattle.fal_base.specs.declared.reply.Errno.TheVariants.{Enoent, Enotdir}
+use Rattle.fal_base.specs.declared.reply.Reply.TheVariants.{Fail}
+use Rattle.fal_base.proofs.Maps.{put_cases}
+use Rattle.fal_exec.specs.RowCall.{row_names}
+use Rattle.fal_node.specs.declared.event.NodeEvent.TheVariants.{Deliver}
+use Rattle.fal_node.specs.Deliver.{admitted, take_call, installed, emptied, refusal, refusals, refuse, settle, settle_pending, take_message, take_read, delivered}
+use Rattle.fal_node.specs.Letters.{Work, begun, is_asker}
+use Rattle.fal_node.specs.State.{NodeState, with_item}
+use Rattle.fal_node.specs.Step.{is_node, node_step, only_if}
+use Rattle.fal_wait.specs.declared.pending_fetch.PendingFetch.{PendingFetch}
+use Rattle.fal_wait.specs.Waiting.{WaitList, call_of, fetch_of, after_settle}
+use Rattle.fal_wire.specs.declared.fault.WireFault.{WireFault}
+use Rattle.fal_wire.specs.declared.message.Found.{Found}
+use Rattle.fal_wire.specs.declared.message.Found.TheVariants as found
+use Rattle.fal_wire.specs.declared.message.Message.{Message}
+use Rattle.fal_wire.specs.declared.message.Message.TheVariants as message
+use Rattle.fal_wire.specs.Messages.{Fits, reading}
+use Rattle.fal_wire.specs.Ops.{call_field}
+use Rattle.fal_wire.specs.Rows.{dentry_field}
+use Rattle.fal_wire.proofs.ReadingLaws.{spelled_reads}
+use Rattle.fal_story.proofs.Lists.Each.{Each, each_join}
+use Rattle.fal_story.proofs.Ranges.Bounds.{IsNodeCounted, IsRecord}
+use Rattle.fal_story.proofs.Ranges.Counters.{withouts_same, admit_count, settle_count}
+use Rattle.fal_story.proofs.Ranges.MessageRanges.{reply_fits, call_of_record, got_dentry, id_of_call, fail_fits}
+use Rattle.fal_story.proofs.Ranges.NodeRanges.{IsStart, KeepsRanges, LetterFits, within, counted_more, keeps_same}
+use Rattle.fal_story.proofs.Ranges.WaitRanges.{WaitersFit, fit_admit, fit_withouts, fit_settle, waiter_of}
+
+-- ---- a call
+
+admitted_keeps : (events : ℕ) (x : NodeState) (call : CallRec) → IsStart events x → call_field.Fits call → KeepsRanges events (begun (admitted x call))
+unfolding admitted
+admitted_keeps events x call start fits =
+    let few = start.few in
+    let drawn = start.drawn in
+    let opened = start.opened in
+    let ranged = start.ranged in
+    let more = start.counted in
+    let tickets = more.tickets in
+    let items = more.items in
+    let batches = more.batches in
+    let fetches = more.fetches in
+    let count = admit_count x.waiting call in
+    let count_tickets = count.tickets in
+    let count_opened = count.opened in
+    let count_fetches = ap length count.fetches in
+    let now : IsNodeCounted (events + 1) (admitted x call) = record { tickets = omega arith; items = omega arith; batches = omega arith; fetches = omega arith } in
+    record {
+      within = within events (begun (admitted x call)) few now tt (omega arith) start.number (omega arith) (omega arith);
+      ranged = record { rows = ranged.rows; replica = ranged.replica; waiting = fit_admit x.waiting call fits ranged.waiting; items = ranged.items; batches = ranged.batches };
+      counted = now;
+    }
+
+call_keeps : (events : ℕ) (x : NodeState) (call : CallRec) → IsStart events x → call_field.Fits call → KeepsRanges events (begun (take_call x call))
+call_keeps events x call start fits =
+    elim (is_some (row_names call.op)) as (λ b. KeepsRanges events (begun (cond b (admitted x call) x))) [ true ↦ admitted_keeps events x call start fits | false ↦ keeps_same events x start ]
+
+-- ---- a question
+
+ask_keeps : (events : ℕ) (x : NodeState) (m : Message) → IsStart events x → Fits m → KeepsRanges events (begun (with_item x m))
+unfolding with_item
+ask_keeps events x m start fits =
+    let few = start.few in
+    let drawn = start.drawn in
+    let opened = start.opened in
+    let ranged = start.ranged in
+    let more = counted_more events x start.counted in
+    let before = start.counted in
+    let items = before.items in
+    let now : IsNodeCounted (events + 1) (with_item x m) = record { tickets = more.tickets; items = omega arith; batches = more.batches; fetches = more.fetches } in
+    record {
+      within = within events (begun (with_item x m)) few now tt (omega arith) start.number (omega arith) (omega arith);
+      ranged = record { rows = ranged.rows; replica = ranged.replica; waiting = ranged.waiting; items = each_join _ x.items _ ranged.items (fits.fields, tt); batches = ranged.batches };
+      counted = now;
+    }
+
+-- ---- what was found
+
+same_dentry : (a b : Dentry) → Some a ≡ Some b → a ≡ b
+same_dentry a b e = cc
+
+-- a fetch was settled
+settled_counts : (events : ℕ) (x : NodeState) (number : ℕ) → IsNodeCounted events x → IsNodeCounted (events + 1) (record x { waiting = after_settle x.waiting number })
+settled_counts events x number counted =
+    let tickets = counted.tickets in
+    let items = counted.items in
+    let batches = counted.batches in
+    let fetches = counted.fetches in
+    let count = settle_count x.waiting number in
+    let count_tickets = count.tickets in
+    let count_opened = count.opened in
+    let count_fetches = count.fetches in
+    record { tickets = omega arith; items = omega arith; batches = omega arith; fetches = omega arith }
+
+installed_keeps : (events : ℕ) (x : NodeState) (number : ℕ) (key : Key) (dentry : Dentry) → IsStart events x → dentry_field.Fits dentry → KeepsRanges events (begun (installed x number key dentry))
+unfolding installed
+installed_keeps events x number key dentry start fits =
+    let few = start.few in
+    let drawn = start.drawn in
+    let opened = start.opened in
+    let ranged = start.ranged in
+    let counts = settled_counts events x number start.counted in
+    let count = settle_count x.waiting number in
+    let count_opened = count.opened in
+    let now : IsNodeCounted (events + 1) (installed x number key dentry) = record { tickets = counts.tickets; items = counts.items; batches = counts.batches; fetches = counts.fetches } in
+    record {
+      within = within events (begun (installed x number key dentry)) few now tt (omega arith) start.number (omega arith) (omega arith);
+      ranged = record {
+        rows = ranged.rows;
+        replica = λ q d is.
+            ⊎_elim
+            (λ e. subst dentry_field.Fits (same_dentry dentry d (sym e.1 ∙ is)) fits)
+            (λ e. ranged.replica q d (sym e.1 ∙ is))
+            (put_cases q key dentry x.replica);
+        waiting = fit_settle x.waiting number ranged.waiting;
+        items = ranged.items;
+        batches = ranged.batches;
+      };
+      counted = now;
+    }
+
+refusal_fits : (call : Option CallRec) (errno : Errno) (point : ℕ) → ((c : CallRec) → call ≡ Some c → call_field.Fits c) → Each LetterFits (refusal call errno point)
+refusal_fits None errno point fits = tt
+refusal_fits (Some call) errno point fits = (reply_fits call.id (Fail errno) (id_of_call call (fits call refl)) (fail_fits errno), tt)
+
+refusals_fit : (list : WaitList) (errno : Errno) (point : ℕ) (tickets : List ℕ) → WaitersFit list → Each LetterFits (refusals list errno point tickets)
+refusals_fit list errno point [] fits = tt
+refusals_fit list errno point (ticket ∷ tickets) fits =
+    each_join LetterFits (refusal (call_of list ticket) errno point) (refusals list errno point tickets)
+    (refusal_fits (call_of list ticket) errno point (λ c is. waiter_of list ticket c is fits))
+    (refusals_fit list errno point tickets fits)
+
+refuse_keeps : (events : ℕ) (x : NodeState) (point : ℕ) (errno : Errno) (fetch : PendingFetch) → IsStart events x → KeepsRanges events (refuse x point errno fetch)
+unfolding emptied
+refuse_keeps events x point errno fetch start =
+    let few = start.few in
+    let drawn = start.drawn in
+    let opened = start.opened in
+    let ranged = start.ranged in
+    let counts = settled_counts events x fetch.number start.counted in
+    let count = settle_count x.waiting fetch.number in
+    let count_opened = count.opened in
+    let same = withouts_same (after_settle x.waiting fetch.number) fetch.waiters in
+    let tickets = counts.tickets in
+    let fetches = counts.fetches in
+    let same_tickets = same.0 in
+    let same_opened = same.1 in
+    let same_fetches = ap length same.2 in
+    let now : IsNodeCounted (events + 1) (emptied x fetch.number fetch.waiters) = record { tickets = omega arith; items = counts.items; batches = counts.batches; fetches = omega arith } in
+    record {
+      within = within events (refuse x point errno fetch) few now (refusals_fit x.waiting errno point fetch.waiters ranged.waiting) (omega arith) start.number (omega arith) (omega arith);
+      ranged = record {
+        rows = ranged.rows;
+        replica = ranged.replica;
+        waiting = fit_withouts (after_settle x.waiting fetch.number) fetch.waiters (fit_settle x.waiting fetch.number ranged.waiting);
+        items = ranged.items;
+        batches = ranged.batches;
+      };
+      counted = now;
+    }
+
+settle_keeps : (events : ℕ) (x : NodeState) (point number : ℕ) (key : Key) (what : Found) (fetch : PendingFetch) → IsStart events x → Fits (message.FetchGot number key what)
+    → KeepsRanges events (settle x point key what fetch)
+settle_keeps events x point number key (found.Dir dentry) fetch start fits = installed_keeps events x fetch.number key dentry start (got_dentry number key dentry fits)
+settle_keeps events x point number key found.Nothing fetch start fits = refuse_keeps events x point Enoent fetch start
+settle_keeps events x point number key found.File fetch start fits = refuse_keeps events x point Enotdir fetch start
+
+got_keeps : (events : ℕ) (x : NodeState) (point number : ℕ) (key : Key) (what : Found) (fetch : Option PendingFetch) → IsStart events x → Fits (message.FetchGot number key what)
+    → KeepsRanges events (settle_pending x point key what fetch)
+got_keeps events x point number key what None start fits = keeps_same events x start
+got_keeps events x point number key what (Some fetch) start fits = settle_keeps events x point number key what fetch start fits
+
+-- ---- any record
+
+message_keeps : (events : ℕ) (x : NodeState) (point : ℕ) (m : Message) → IsStart events x → Fits m → KeepsRanges events (take_message x point m)
+message_keeps events x point (message.Call call) start fits = call_keeps events x call start (call_of_record call fits)
+message_keeps events x point (message.FetchAsk asker number key) start fits =
+    elim (is_asker x.table.nodes asker) as (λ b. KeepsRanges events (begun (cond b (with_item x (message.FetchAsk asker number key)) x))) [
+      | true ↦ ask_keeps events x (message.FetchAsk asker number key) start fits
+      | false ↦ keeps_same events x start
+    ]
+message_keeps events x point (message.FetchGot number key what) start fits = got_keeps events x point number key what (fetch_of x.waiting number) start fits
+message_keeps events x point other start fits = keeps_same events x start
+
+delivered_keeps : (events : ℕ) (x : NodeState) (e : Envelope) → IsStart events x → IsRecord e → KeepsRanges events (delivered x e)
+unfolding delivered
+delivered_keeps events x e start sent =
+    let read : reading e.bytes ≡ Ok sent.0 = ap reading sent.2 ∙ spelled_reads sent.0 sent.1 in
+    subst (λ (r : Result Message WireFault). KeepsRanges events (take_read x e.point r)) (sym read) (message_keeps events x e.point sent.0 start sent.1)
+
+pub deliver_keeps : (events : ℕ) (x : NodeState) (e : Envelope) (work : Work) → IsStart events x → IsRecord e → node_step x (Deliver e) ≡ Some work → KeepsRanges events work
+unfolding node_step
+deliver_keeps events x e work start sent is =
+    elim (is_node e.to x.number) as (λ b. only_if b (delivered x e) ≡ Some work → KeepsRanges events work) [
+      | true ↦ λ z. subst (KeepsRanges events) (same_Some (delivered x e) work z) (delivered_keeps events x e start sent)
+      | false ↦ λ z. absurd (cc)
+    ] is

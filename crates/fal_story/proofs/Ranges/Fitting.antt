@@ -1,0 +1,119 @@
+-- Which operations a record can hold, by tests.
+use Rattle.std.proofs.Common.{◌≡◌, ◌↔◌, ℕ, ◌+◌, ◌<◌, ◌≤◌, ◌^◌, Bool, true, false, cond, ◌&&◌, List, [], ◌∷◌, length, Option, Some, None, Result, Err, refl, IsTrue, arith}
+use Rattle.std.specs.Prelude.{is_ok, nat_le, nat_lt, ◌==◌}
+use Rattle.std.specs.List.{list_all}
+use Rattle.std.proofs.lemmas.Bool.Decides.{nat_tests}
+use Rattle.std.proofs.lemmas.List.Sums.{sum_by-cons}
+use Rattle.fal_base.specs.declared.op.Op.{Op}
+use Rattle.fal_base.specs.declared.op.Op.TheVariants as op
+use Rattle.fal_base.specs.declared.path.PathArg.{PathArg}
+use Rattle.fal_base.specs.declared.path.PathArg.TheVariants.{Good}
+use Rattle.fal_base.specs.OpPaths.{bad_path, fault_of}
+use Rattle.fal_story.specs.Clusters.{is_served}
+use Rattle.fal_wire.specs.Format.{AreItems}
+use Rattle.fal_base.specs.Names.{is_name}
+use Rattle.fal_base.specs.Paths.{path_bytes}
+use Rattle.fal_wire.specs.Names.{name_field, path_names, path_field, path_arg_field}
+use Rattle.fal_wire.specs.Numbers.{mode_field, want_field, size_field}
+use Rattle.fal_wire.specs.Ops.{path_and_mode, path_and_want, path_and_size, op_field}
+
+-- ---- names
+
+both_true : (a b : Bool) → (a && b) ≡ true → (a ≡ true) × (b ≡ true)
+both_true true b h = (refl, h)
+both_true false b h = absurd cc
+
+-- what passed two tests, one after the other, passed the second
+second_passed : {A E : Type 0} (a b : Bool) (d e : E) (r : Result A E) → is_ok (cond a (Err d) (cond b (Err e) r)) ≡ true → b ≡ false
+second_passed true b d e r h = absurd cc
+second_passed false true d e r h = absurd cc
+second_passed false false d e r h = refl
+
+pub short_name : (name : List ℕ) → is_name name ≡ true → length name < 256
+unfolding is_name
+short_name name h = let long = second_passed (length name == 0) (nat_lt 255 (length name)) _ _ _ h in grind (arith, nat_tests)
+
+names_fit : (before : Option (List ℕ)) (names : List (List ℕ)) → list_all is_name names ≡ true → AreItems (λ _. name_field) before names
+unfolding name_field
+names_fit before [] h = tt
+names_fit before (name ∷ names) h =
+    let both = both_true (is_name name) (list_all is_name names) h in
+    ((short_name name both.0, both.0), names_fit (Some name) names both.1)
+
+names_pass : (before : Option (List ℕ)) (names : List (List ℕ)) → AreItems (λ _. name_field) before names → list_all is_name names ≡ true
+unfolding name_field
+names_pass before [] fit = refl
+names_pass before (name ∷ names) fit = rw fit.0.1 (names_pass (Some name) names fit.1)
+
+-- each name has a slash before it
+few_names : (names : List (List ℕ)) → length names ≤ path_bytes names
+few_names [] = omega arith
+few_names (name ∷ names) = let few = few_names names in let more = sum_by-cons (λ (n : List ℕ). length n + 1) name names in omega arith
+
+pub path_fits : (names : List (List ℕ)) → nat_le (path_bytes names) 4095 ≡ true → list_all is_name names ≡ true → path_field.Fits names
+unfolding path_field path_names
+path_fits names short all =
+    let few = few_names names in
+    let most : length names < 256 ^ 2 = grind (arith, nat_tests) in
+    ((most, (refl, names_fit None names all)), short)
+
+pub path_passes : (names : List (List ℕ)) → path_field.Fits names → (nat_le (path_bytes names) 4095 ≡ true) × (list_all is_name names ≡ true)
+unfolding path_field path_names
+path_passes names fits = (fits.1, names_pass None names fits.0.1.1)
+
+-- ---- operations
+
+-- nodes alone answer the operation, and a record can hold it where its path is good
+abbrev pub CanServe : Op → Type 0
+CanServe o = IsTrue (is_served o) × (bad_path o ≡ None → op_field.Fits o)
+
+-- a record can hold the path, where it is good, and the rest passed a test
+abbrev pub IsHeld : PathArg → Bool → Type 0
+IsHeld path rest = fault_of path ≡ None → path_arg_field.Fits path × IsTrue rest
+
+pub good_held : (names : List (List ℕ)) (rest : Bool) → IsHeld (Good names) rest ↔ (path_field.Fits names × IsTrue rest)
+unfolding path_arg_field
+good_held names rest = (λ h. h refl, λ h good. h)
+
+pub mkdir_is : (path : PathArg) (mode : ℕ) → IsHeld path (nat_lt mode 512) ↔ CanServe (op.Mkdir path mode)
+unfolding bad_path op_field path_and_mode mode_field
+mkdir_is path mode = (
+  λ h. (refl, λ good. let p = h good in (p.0, (grind (arith, nat_tests), p.1))),
+  λ h good. let p = h.1 good in (p.0, p.1.1),
+)
+
+pub create_is : (path : PathArg) (mode : ℕ) → IsHeld path (nat_lt mode 512) ↔ CanServe (op.Create path mode)
+unfolding bad_path op_field path_and_mode mode_field
+create_is path mode = (
+  λ h. (refl, λ good. let p = h good in (p.0, (grind (arith, nat_tests), p.1))),
+  λ h good. let p = h.1 good in (p.0, p.1.1),
+)
+
+pub access_is : (path : PathArg) (want : ℕ) → IsHeld path (nat_lt want 8) ↔ CanServe (op.Access path want)
+unfolding bad_path op_field path_and_want want_field
+access_is path want = (
+  λ h. (refl, λ good. let p = h good in (p.0, (grind (arith, nat_tests), p.1))),
+  λ h good. let p = h.1 good in (p.0, p.1.1),
+)
+
+pub truncate_is : (path : PathArg) (size : ℕ) → IsHeld path (nat_lt size (2 ^ 63)) ↔ CanServe (op.Truncate path size)
+unfolding bad_path op_field path_and_size size_field
+truncate_is path size = (
+  λ h. (refl, λ good. let p = h good in (p.0, (grind (arith, nat_tests), p.1))),
+  λ h good. let p = h.1 good in (p.0, p.1.1),
+)
+
+pub stat_is : (path : PathArg) → IsHeld path true ↔ CanServe (op.Stat path)
+unfolding bad_path op_field
+stat_is path = (λ h. (refl, λ good. (h good).0), λ h good. (h.1 good, refl))
+
+pub unlink_is : (path : PathArg) → IsHeld path true ↔ CanServe (op.Unlink path)
+unfolding bad_path op_field
+unlink_is path = (λ h. (refl, λ good. (h good).0), λ h good. (h.1 good, refl))
+
+-- one thing as good as another, which is as good as a third
+pub as_good : {A B C : Type 0} → A ↔ B → B ↔ C → A ↔ C
+as_good f g = (λ a. g.0 (f.0 a), λ c. f.1 (g.1 c))
+
+pub at_most : (n most : ℕ) → n ≤ most → nat_le n most ≡ true
+at_most n most h = grind (arith, nat_tests)

@@ -1,0 +1,237 @@
+-- A node that gathers its free calls keeps to the ranges.
+use Rattle.std.proofs.Common.{◌≡◌, ℕ, suc, ◌+◌, ◌*◌, ◌<◌, ◌≤◌, ◌^◌, nat_lt, Bool, true, false, cond, List, [], ◌∷◌, ◌++◌, length, filter, Option, Some, None, is_none, refl, ap, subst, ◌∙◌, arith}
+use Rattle.std.specs.List.{filter_map, cons_option}
+use Rattle.std.specs.Option.{option_map}
+use Rattle.std.proofs.lemmas.Bool.Decides.{nat_tests}
+use Rattle.std.proofs.lemmas.List.{length-append, length-map}
+use Rattle.std.proofs.lemmas.Option.{same_Some}
+use Rattle.fal_base.specs.declared.call.CallRec.{CallRec}
+use Rattle.fal_base.specs.declared.key.Key.{Key}
+use Rattle.fal_base.specs.Tree.{same_key}
+use Rattle.fal_batch.specs.declared.parts.Planned.{Planned}
+use Rattle.fal_batch.specs.declared.parts.Sending.{Sending}
+use Rattle.fal_batch.specs.declared.parts.Sending.TheVariants as sending
+use Rattle.fal_batch.specs.declared.parts.Wanted.{Wanted}
+use Rattle.fal_batch.specs.Fate.{Setting, Fate, Skips, Leaves, Waits, Joins, fate}
+use Rattle.fal_batch.specs.Plan.{Planning, no_plan, with_wait, with_planned, with_waiter, is_wanted, after_fate, plan_one, plan_calls, plan_of, is_idle, free_call, free_calls}
+use Rattle.fal_node.specs.declared.batch.BatchCall.{BatchCall}
+use Rattle.fal_node.specs.declared.event.NodeEvent.TheVariants.{Gather}
+use Rattle.fal_wire.specs.declared.letter.Letter.{Letter}
+use Rattle.fal_node.specs.Gather.{setting_at, plan_at, gather_letters, leaving, batch_call, batch_calls, with_fetches, with_waiting, batched, with_batch, gathered}
+use Rattle.fal_node.specs.Letters.{Work}
+use Rattle.fal_node.specs.State.{NodeState}
+use Rattle.fal_node.specs.Step.{node_step}
+use Rattle.fal_place.specs.Placement.{opening_table}
+use Rattle.fal_wait.specs.declared.waiting_call.WaitingCall.{WaitingCall}
+use Rattle.fal_wait.specs.Waiting.{WaitList, free_tickets, call_of}
+use Rattle.fal_wire.specs.Names.{key_field}
+use Rattle.fal_wire.specs.Ops.{call_field}
+use Rattle.fal_story.proofs.Lists.Each.{Each, each_join, each_both}
+use Rattle.fal_story.proofs.Ranges.Bounds.{IsNodeRanged, IsNodeCounted}
+use Rattle.fal_story.proofs.Ranges.Counters.{withouts_same, opens_count}
+use Rattle.fal_story.proofs.Ranges.FateRanges.{FateFits, IsHere, fate_fits}
+use Rattle.fal_story.proofs.Ranges.MessageRanges.{ask_fits, asker_fits}
+use Rattle.fal_story.proofs.Ranges.NodeRanges.{IsStart, KeepsRanges, LetterFits, within, counted_more}
+use Rattle.fal_story.proofs.Ranges.WaitRanges.{WaitersFit, fit_withouts, fit_opens, waiter_of, waiter_has}
+
+-- ---- the free calls
+
+fewer_kept : {A : Type 0} (p : A → Bool) (xs : List A) → length (filter p xs) ≤ length xs
+fewer_kept p [] = omega arith
+fewer_kept p (x ∷ xs) = let h = fewer_kept p xs in elim (p x) as (λ b. length (cond b (x ∷ filter p xs) (filter p xs)) ≤ suc (length xs)) [ true ↦ omega arith | false ↦ omega arith ]
+
+fewer_mapped : {A B : Type 0} (f : A → Option B) (xs : List A) → length (filter_map f xs) ≤ length xs
+fewer_mapped {A} {B} f [] = omega arith
+fewer_mapped {A} {B} f (x ∷ xs) =
+    let h = fewer_mapped f xs in
+    elim (f x) as (λ (o : Option B). length (cons_option o (filter_map f xs)) ≤ suc (length xs)) [ None ↦ omega arith | Some y ↦ omega arith ]
+
+each_mapped : {A B : Type 0} (P : B → Type 0) (f : A → Option B) (xs : List A) → ((x : A) (y : B) → f x ≡ Some y → P y) → Each P (filter_map f xs)
+each_mapped {A} {B} P f [] h = tt
+each_mapped {A} {B} P f (x ∷ xs) h =
+    let rest = each_mapped P f xs h in
+    elim (f x) as (λ (o : Option B). f x ≡ o → Each P (cons_option o (filter_map f xs))) [ None ↦ λ _. rest | Some y ↦ λ is. (h x y is, rest) ] refl
+
+few_free : (list : WaitList) → length (free_calls list) ≤ length list.calls
+few_free list =
+    let mapped = fewer_mapped (free_call list) (free_tickets list) in
+    let free = filter (λ (w : WaitingCall). is_none w.fetch) list.calls in
+    let told = length-map free (λ (w : WaitingCall). w.ticket) in
+    let kept = fewer_kept (λ (w : WaitingCall). is_none w.fetch) list.calls in
+    omega arith
+
+free_is : (list : WaitList) (ticket : ℕ) (w : WaitingCall) (call : Option CallRec) → call_of list ticket ≡ call
+    → option_map (λ (c : CallRec). record { ticket = ticket; call = c; fetch = None }) call ≡ Some w → call_of list ticket ≡ Some w.call
+free_is list ticket w None there is = absurd (cc)
+free_is list ticket w (Some call) there is = there ∙ ap (λ (x : WaitingCall). Some x.call) (same_Some _ w is)
+
+-- what holds of each call that waits holds of the free ones
+each_free : (P : CallRec → Type 0) (list : WaitList) → Each (λ (w : WaitingCall). P w.call) list.calls → Each (λ (w : WaitingCall). P w.call) (free_calls list)
+each_free P list h =
+    each_mapped (λ (w : WaitingCall). P w.call) (free_call list) (free_tickets list)
+    (λ ticket w is. waiter_has P list ticket w.call (free_is list ticket w (call_of list ticket) refl is) h)
+
+-- ---- the plan
+
+-- the record asks for a directory, by a key in the ranges
+abbrev SendFits : Sending → Type 0
+SendFits (sending.Away away) = ⊥
+SendFits (sending.Fetch key) = key_field.Fits key
+
+-- the plan after so many free calls
+record IsPlan (limit : ℕ) (p : Planning) (met : ℕ) : Type 0 where
+  sends : Each SendFits p.sends
+  few_sends : length p.sends ≤ met
+  few_fetches : length p.fetches ≤ met
+  few_calls : length p.calls ≤ limit
+
+waiter_length : (fetches : List Wanted) (key : Key) (ticket : ℕ) → length (with_waiter fetches key ticket) ≤ length fetches + 1
+waiter_length [] key ticket = omega arith
+waiter_length (w ∷ ws) key ticket =
+    let h = waiter_length ws key ticket in
+    elim (same_key w.key key) as (λ b. length (cond b (record w { waiters = w.waiters ++ ticket ∷ [] } ∷ ws) (w ∷ with_waiter ws key ticket)) ≤ suc (length ws) + 1) [
+      | true ↦ omega arith
+      | false ↦ omega arith
+    ]
+
+push_length : {A : Type 0} (xs : List A) (x : A) → length (xs ++ x ∷ []) ≡ length xs + 1
+push_length xs x = length-append xs (x ∷ [])
+
+after_is_plan : (limit : ℕ) (p : Planning) (ticket : ℕ) (f : Fate) (met : ℕ) → FateFits f → IsPlan limit p met → IsPlan limit (after_fate limit p ticket f) (suc met)
+unfolding with_wait with_planned
+after_is_plan limit p ticket Skips met fits h =
+    let few_sends = h.few_sends in
+    let few_fetches = h.few_fetches in
+    record { sends = h.sends; few_sends = omega arith; few_fetches = omega arith; few_calls = h.few_calls }
+after_is_plan limit p ticket (Leaves to) met fits h = absurd fits
+after_is_plan limit p ticket (Waits key) met fits h =
+    let few_sends = h.few_sends in
+    let few_fetches = h.few_fetches in
+    let waiter = waiter_length p.fetches key ticket in
+    let one = push_length p.sends (sending.Fetch key) in
+    elim (is_wanted p.fetches key) as (λ b. IsPlan limit (record p { fetches = with_waiter p.fetches key ticket; sends = cond b p.sends (p.sends ++ sending.Fetch key ∷ []) }) (suc met)) [
+      | true ↦ record { sends = h.sends; few_sends = omega arith; few_fetches = omega arith; few_calls = h.few_calls }
+      | false ↦ record { sends = each_join SendFits p.sends (sending.Fetch key ∷ []) h.sends (fits, tt); few_sends = omega arith; few_fetches = omega arith; few_calls = h.few_calls }
+    ]
+after_is_plan limit p ticket (Joins denied parent last keys) met fits h =
+    let few_sends = h.few_sends in
+    let few_fetches = h.few_fetches in
+    let x : Planned = record { ticket = ticket; denied = denied; parent = parent; last = last } in
+    let one = push_length p.calls x in
+    elim (nat_lt (length p.calls) limit) as (λ b. nat_lt (length p.calls) limit ≡ b → IsPlan limit (cond b (with_planned p x keys) p) (suc met)) [
+      | true ↦ λ below. record { sends = h.sends; few_sends = omega arith; few_fetches = omega arith; few_calls = push_below (length p.calls) limit (length (p.calls ++ x ∷ [])) below one }
+      | false ↦ λ _. record { sends = h.sends; few_sends = omega arith; few_fetches = omega arith; few_calls = h.few_calls }
+    ] refl
+  where
+    push_below : (n limit m : ℕ) → nat_lt n limit ≡ true → m ≡ n + 1 → m ≤ limit
+    push_below n limit m below is = grind (arith, nat_tests)
+
+calls_is_plan : (s : Setting) (p : Planning) (ws : List WaitingCall) (met : ℕ) → Each (λ (w : WaitingCall). FateFits (fate s w.call)) ws → IsPlan s.limit p met → IsPlan s.limit (plan_calls s p ws) (met + length ws)
+unfolding plan_one
+calls_is_plan s p [] met fits h = let same : met ≡ met + 0 = omega arith in subst (IsPlan s.limit p) same h
+calls_is_plan s p (w ∷ ws) met fits h =
+    let next : suc met + length ws ≡ met + suc (length ws) = omega arith in
+    subst (IsPlan s.limit (plan_calls s (plan_one s p w) ws)) next (calls_is_plan s (plan_one s p w) ws (suc met) fits.1 (after_is_plan s.limit p w.ticket (fate s w.call) met fits.0 h))
+
+-- ---- what is sent
+
+gather_fit : (x : NodeState) (number : ℕ) (sends : List Sending) → x.number < 16 → number + length sends ≤ 2 ^ 64 → Each SendFits sends → Each LetterFits (gather_letters x number sends)
+gather_fit x number [] small below fits = tt
+gather_fit x number (sending.Away away ∷ sends) small below fits = absurd fits.0
+gather_fit x number (sending.Fetch key ∷ sends) small below fits =
+    (ask_fits x.number number key (asker_fits x.number small) (omega arith) fits.0, gather_fit x (number + 1) sends small (omega arith) fits.1)
+
+-- ---- the batch
+
+batch_calls_fit : (list : WaitList) (plans : List Planned) → WaitersFit list
+    → (length (batch_calls list plans) ≤ length plans) × Each (λ (p : BatchCall). call_field.Fits p.call) (batch_calls list plans)
+batch_calls_fit list [] fits = (omega arith, tt)
+batch_calls_fit list (p ∷ plans) fits =
+    let rest = batch_calls_fit list plans fits in
+    let short = rest.0 in
+    elim (call_of list p.ticket) as (λ o. call_of list p.ticket ≡ o
+    → (length (batch_call o p ++ batch_calls list plans) ≤ suc (length plans)) × Each (λ (q : BatchCall). call_field.Fits q.call) (batch_call o p ++ batch_calls list plans)) [
+      | None ↦ λ _. (omega arith, rest.1)
+      | Some call ↦ λ is. (omega arith, (waiter_of list p.ticket call is fits, rest.1))
+    ] refl
+
+batch_keeps : (events : ℕ) (x : NodeState) (calls : List BatchCall) (keys : List Key) (sent : List Letter) → events < 2 ^ 63 → IsNodeRanged x → IsNodeCounted events x → x.waiting.opened ≤ 2 * events + 1
+    → x.number < 16 → x.drawn ≤ 10000 → length calls ≤ 64 → Each (λ (p : BatchCall). call_field.Fits p.call) calls → Each LetterFits sent
+    → KeepsRanges events (record { node = with_batch x calls keys; sent = sent; notes = [] })
+unfolding batched
+batch_keeps events x [] keys sent few ranged counted opened number drawn short fit letters =
+    let more = counted_more events x counted in
+    record { within = within events (record { node = x; sent = sent; notes = [] }) few more letters opened number (omega arith) (omega arith); ranged = ranged; counted = more }
+batch_keeps events x (call ∷ calls) keys sent few ranged counted opened number drawn short fit letters =
+    let more = counted_more events x counted in
+    let batches = counted.batches in
+    let now : IsNodeCounted (events + 1) (batched x (call ∷ calls) keys) = record { tickets = more.tickets; items = more.items; batches = omega arith; fetches = more.fetches } in
+    record {
+      within = within events (record { node = batched x (call ∷ calls) keys; sent = sent; notes = [] }) few now letters opened number (omega arith) (omega arith);
+      ranged = record {
+        rows = ranged.rows;
+        replica = ranged.replica;
+        waiting = ranged.waiting;
+        items = ranged.items;
+        batches = each_join _ x.batches _ ranged.batches ((short, fit), tt);
+      };
+      counted = now;
+    }
+
+-- ---- the step
+
+-- each call that waits goes to this node by its path
+abbrev pub AreHere : NodeState → Type 0
+AreHere x = Each (λ (w : WaitingCall). IsHere x.table x.number w.call) x.waiting.calls
+
+gathered_keeps : (events nodes : ℕ) (x : NodeState) → IsStart events x → x.table ≡ opening_table nodes → AreHere x → KeepsRanges events (gathered x (plan_at x))
+unfolding gathered with_waiting plan_at
+gathered_keeps events nodes x start table here =
+    let few = start.few in
+    let small = start.number in
+    let limit = start.limit in
+    let opened = start.opened in
+    let waiting_few = start.calls in
+    let ranged = start.ranged in
+    let s = setting_at x in
+    let fits = each_both (λ (w : WaitingCall). call_field.Fits w.call) (λ (w : WaitingCall). IsHere x.table x.number w.call) (λ (w : WaitingCall). FateFits (fate s w.call)) x.waiting.calls
+    (λ w fits at. fate_fits s nodes w.call table ranged.replica at fits) ranged.waiting here in
+    let free = few_free x.waiting in
+    let plan = plan_of s x.waiting in
+    let is = calls_is_plan s no_plan (free_calls x.waiting) 0 (each_free (λ c. FateFits (fate s c)) x.waiting fits) (record { sends = tt; few_sends = omega arith; few_fetches = omega arith; few_calls = omega arith }) in
+    let few_sends = is.few_sends in
+    let few_fetches = is.few_fetches in
+    let few_planned = is.few_calls in
+    let opens = opens_count x.waiting plan.fetches in
+    let same = withouts_same (with_fetches x.waiting plan.fetches) (leaving plan) in
+    let opens_tickets = opens.tickets in
+    let opens_opened = opens.opened in
+    let opens_fetches = opens.fetches in
+    let same_tickets = same.0 in
+    let same_opened = same.1 in
+    let same_fetches = ap length same.2 in
+    let counted = start.counted in
+    let tickets = counted.tickets in
+    let fetches = counted.fetches in
+    let y : NodeState = with_waiting x plan.fetches (leaving plan) in
+    let calls = batch_calls_fit x.waiting plan.calls ranged.waiting in
+    let short = calls.0 in
+    batch_keeps events y (batch_calls x.waiting plan.calls) plan.keys (gather_letters x x.waiting.opened plan.sends) few
+    (record {
+      rows = ranged.rows;
+      replica = ranged.replica;
+      waiting = fit_withouts (with_fetches x.waiting plan.fetches) (leaving plan) (fit_opens x.waiting plan.fetches ranged.waiting);
+      items = ranged.items;
+      batches = ranged.batches;
+    })
+    (record { tickets = omega arith; items = counted.items; batches = counted.batches; fetches = omega arith })
+    (omega arith) small start.drawn (omega arith) calls.1
+    (gather_fit x x.waiting.opened plan.sends small (omega arith) is.sends)
+
+pub gather_keeps : (events nodes : ℕ) (x : NodeState) (work : Work) → IsStart events x → x.table ≡ opening_table nodes → AreHere x → node_step x Gather ≡ Some work → KeepsRanges events work
+unfolding node_step
+gather_keeps events nodes x work start table here is =
+    elim (is_idle (plan_at x)) as (λ b. cond b None (Some (gathered x (plan_at x))) ≡ Some work → KeepsRanges events work) [
+      | true ↦ λ e. absurd (cc)
+      | false ↦ λ e. subst (KeepsRanges events) (same_Some (gathered x (plan_at x)) work e) (gathered_keeps events nodes x start table here)
+    ] is

@@ -1,0 +1,165 @@
+-- Each event is within the ranges of the format, and keeps to them.
+use Rattle.std.proofs.Common.{◌≡◌, ℕ, ◌+◌, ◌<◌, ◌^◌, Bool, true, false, cond, List, [], ◌∷◌, length, Some, refl, sym, ap, subst, ◌∙◌, arith}
+use Rattle.std.specs.Prelude.{map, IsTrue, ◌==◌}
+use Rattle.std.specs.List.{find}
+use Rattle.std.proofs.lemmas.Option.{same_Some}
+use Rattle.fal_base.specs.declared.call.CallRec.{CallRec}
+use Rattle.fal_base.specs.declared.call.Config.{Config}
+use Rattle.fal_base.specs.declared.event.Actor.{Actor}
+use Rattle.fal_base.specs.declared.event.Actor.TheVariants.{Client, Node}
+use Rattle.fal_client.specs.declared.event.ClientEvent.{ClientEvent}
+use Rattle.fal_client.specs.declared.event.ClientEvent.TheVariants as client
+use Rattle.fal_client.specs.Paths.{addressee}
+use Rattle.fal_client.specs.State.{Work as ClientWork}
+use Rattle.fal_client.specs.Step.{IsInRange, client_step}
+use Rattle.fal_node.specs.declared.batch.Batch.{Batch}
+use Rattle.fal_node.specs.declared.batch.BatchCall.{BatchCall}
+use Rattle.fal_node.specs.declared.event.NodeEvent.{NodeEvent}
+use Rattle.fal_node.specs.declared.event.NodeEvent.TheVariants as node
+use Rattle.fal_wire.specs.declared.letter.Letter.{Letter}
+use Rattle.fal_wire.specs.Letters.{output_of}
+use Rattle.fal_node.specs.Letters.{Work}
+use Rattle.fal_node.specs.Step.{IsWithin, node_step}
+use Rattle.fal_place.specs.Placement.{route}
+use Rattle.fal_story.proofs.Events.Shows.{Ghost, Shows, WaitsAt, PlannedAt, lane_of, planned_lane, pending_calls, calls_in}
+use Rattle.fal_story.proofs.Lists.Each.{Each, each_weaker, each_join, each_front, each_back}
+use Rattle.fal_story.proofs.Lists.EachAll.{each_of_std}
+use Rattle.fal_story.proofs.Lists.Grown.{put_all}
+use Rattle.fal_story.proofs.Lists.Members.{each_in, in_at}
+use Rattle.fal_story.proofs.Phase.{Idle, Plans, IsFor}
+use Rattle.fal_story.proofs.Ranges.Bounds.{IsRanged, IsNodeRanged, IsNodeCounted, IsRecord, Comes, ComesToClient}
+use Rattle.fal_story.proofs.Ranges.ClientRanges.{IsClient, client_of, send_keeps, get_keeps}
+use Rattle.fal_story.proofs.Ranges.Counters.{few_fetches, few_calls}
+use Rattle.fal_story.proofs.Ranges.Counts.{few_commits}
+use Rattle.fal_story.proofs.Ranges.DeliverRanges.{deliver_keeps}
+use Rattle.fal_story.proofs.Ranges.ExecRanges.{AreServed, exec_keeps}
+use Rattle.fal_story.proofs.Ranges.FateRanges.{sent_here}
+use Rattle.fal_story.proofs.Ranges.GatherRanges.{AreHere, gather_keeps}
+use Rattle.fal_story.proofs.Ranges.NodeRanges.{IsStart, KeepsRanges, LetterFits, counted_more, release_keeps, serve_keeps}
+use Rattle.fal_story.proofs.Trees.Standing.{table_of}
+use Rattle.fal_story.proofs.Ranges.ClientRanges as client_ranges
+use Rattle.fal_story.specs.Clusters.{IsCluster, is_lane, is_served}
+use Rattle.fal_story.specs.World.{World, put, posted, envelopes_of}
+
+-- ---- the world after an event whose records fit
+
+-- what an actor sent, as it goes out
+letters_recorded : (from : Actor) (event commits : ℕ) (letters : List Letter) → Each LetterFits letters → Each IsRecord (envelopes_of from event commits (map output_of letters))
+unfolding output_of
+letters_recorded from event commits [] fit = tt
+letters_recorded from event commits (letter ∷ letters) fit = ((letter.message, fit.0, refl), letters_recorded from event commits letters fit.1)
+
+node_posts : (config : Config) (w : World) (n : ℕ) (work : Work) → IsRanged w → KeepsRanges w.events work
+    → IsRanged (posted config (record w { nodes = put w.nodes n work.node }) (Node n) (map output_of work.sent) work.notes)
+unfolding posted
+node_posts config w n work ranged keeps = record {
+  nodes = put_all (λ m x. IsNodeRanged x) w.nodes n work.node keeps.ranged (λ m _. ranged.nodes m);
+  counted = put_all (λ m x. IsNodeCounted (w.events + 1) x) w.nodes n work.node keeps.counted (λ m _. counted_more w.events (w.nodes m) (ranged.counted m));
+  envelopes = each_join IsRecord w.envelopes _ ranged.envelopes
+      (letters_recorded (Node n) w.events (length w.commits) work.sent (each_of_std LetterFits work.sent keeps.within.records));
+}
+
+client_posts : (config : Config) (w : World) (l : ℕ) (move : ClientWork) → IsRanged w → Each LetterFits move.sent
+    → IsRanged (posted config (record w { clients = put w.clients l move.client }) (Client l) (map output_of move.sent) move.notes)
+unfolding posted
+client_posts config w l move ranged fit = record {
+  nodes = ranged.nodes;
+  counted = λ m. counted_more w.events (w.nodes m) (ranged.counted m);
+  envelopes = each_join IsRecord w.envelopes _ ranged.envelopes (letters_recorded (Client l) w.events (length w.commits) move.sent fit);
+}
+
+-- ---- what is known of a node before its step
+
+start_of : (config : Config) (w : World) (n : ℕ) (h : Ghost) → IsCluster config → n < config.nodes → w.events < 2 ^ 63 → Shows config w h → IsRanged w → IsStart w.events (w.nodes n)
+start_of config w n h cluster there few shows ranged =
+    let placed = shows.placed n in
+    let number = placed.number in
+    let limit = placed.limit in
+    let few_nodes = cluster.few_nodes in
+    let small_batch = cluster.small_batch in
+    let commits = few_commits config w h cluster shows in
+    let drawn = shows.good.script.commits.few n in
+    let counted = ranged.counted n in
+    let tickets = counted.tickets in
+    let fetches = counted.fetches in
+    let pending = few_fetches (w.nodes n).waiting placed.tidy in
+    let waiting = few_calls (w.nodes n).waiting placed.tidy in
+    record {
+      few = few;
+      ranged = ranged.nodes n;
+      counted = counted;
+      number = omega arith;
+      limit = omega arith;
+      drawn = omega arith;
+      opened = omega arith;
+      calls = omega arith;
+    }
+
+-- each call that waits was sent to this node by its path
+here_of : (config : Config) (w : World) (n : ℕ) (h : Ghost) → n < config.nodes → Shows config w h → AreHere (w.nodes n)
+here_of config w n h there shows =
+    each_weaker (WaitsAt h.call h.phase n) _ (w.nodes n).waiting.calls
+    (λ x at names is.
+    let placed = shows.placed n in
+    let to = shows.good.lanes.routed (lane_of x) n there (subst (IsFor n) (sym at.0) refl) in
+    ap (λ t. route t names) placed.table
+    ∙ sent_here (table_of config) x.call.op names n is (ap (λ (c : CallRec). addressee (table_of config) c.op) at.1 ∙ to)
+    ∙ sym placed.number)
+    (shows.held n).waiters
+
+-- the calls of a batch that is not executed are among those that a node keeps
+calls_of_found : (P : BatchCall → Type 0) (test : Batch → Bool) (bs : List Batch) (b : Batch) → Each P (calls_in bs) → find test bs ≡ Some b → b.executed ≡ false → Each P b.calls
+calls_of_found P test [] b each is yet = absurd (cc)
+calls_of_found P test (c ∷ bs) b each is yet =
+    elim (test c) as (λ t. cond t (Some c) (find test bs) ≡ Some b → Each P b.calls) [
+      | true ↦ λ e.
+          let here = subst (λ (x : Batch). Each P (pending_calls x)) (same_Some c b e) (each_front P (pending_calls c) (calls_in bs) each) in
+          subst (λ t. Each P (cond t [] b.calls)) yet here
+      | false ↦ λ e. calls_of_found P test bs b (each_back P (pending_calls c) (calls_in bs) each) e yet
+    ] is
+
+-- and each of these is one that is served
+planned_served : (config : Config) (w : World) (n : ℕ) (h : Ghost) (x : BatchCall) → Shows config w h → PlannedAt h.call h.phase n x → is_served x.call.op ≡ true
+planned_served config w n h x shows at =
+    let served = shows.good.lanes.under_way.served (planned_lane x) (λ idle. let wrong : Plans n x ≡ Idle = sym at.0 ∙ idle in cc) in
+    ap (λ (c : CallRec). is_served c.op) at.1 ∙ served
+
+served_of : (config : Config) (w : World) (n : ℕ) (h : Ghost) → Shows config w h → AreServed (w.nodes n)
+served_of config w n h shows number batch there yet =
+    calls_of_found (λ (x : BatchCall). is_served x.call.op ≡ true) (λ (b : Batch). b.number == number) (w.nodes n).batches batch
+    (each_weaker (PlannedAt h.call h.phase n) _ (calls_in (w.nodes n).batches) (λ x at. planned_served config w n h x shows at) (shows.held n).planned) there yet
+
+node_keeps : (config : Config) (w : World) (n : ℕ) (h : Ghost) (e : NodeEvent) (work : Work) → IsCluster config → n < config.nodes → w.events < 2 ^ 63 → Shows config w h → IsRanged w
+    → Comes w e → node_step (w.nodes n) e ≡ Some work → KeepsRanges w.events work
+node_keeps config w n h (node.Deliver envelope) work cluster there few shows ranged comes is =
+    deliver_keeps w.events (w.nodes n) envelope work (start_of config w n h cluster there few shows ranged) (each_in IsRecord w.envelopes envelope ranged.envelopes (in_at w.envelopes comes.0 envelope comes.1)) is
+node_keeps config w n h node.Gather work cluster there few shows ranged comes is =
+    gather_keeps w.events config.nodes (w.nodes n) work (start_of config w n h cluster there few shows ranged) (shows.placed n).table (here_of config w n h there shows) is
+node_keeps config w n h (node.Exec number) work cluster there few shows ranged comes is =
+    exec_keeps w.events (w.nodes n) number work (start_of config w n h cluster there few shows ranged) (served_of config w n h shows) is
+node_keeps config w n h (node.Release number) work cluster there few shows ranged comes is = release_keeps w.events (w.nodes n) number work (start_of config w n h cluster there few shows ranged) is
+node_keeps config w n h (node.Serve number) work cluster there few shows ranged comes is = serve_keeps w.events (w.nodes n) number work (start_of config w n h cluster there few shows ranged) is
+
+client_keeps : (config : Config) (w : World) (l : ℕ) (h : Ghost) (e : ClientEvent) (move : ClientWork) → IsClient (w.clients l) → Shows config w h → IsRanged w
+    → ComesToClient w e → client_step (w.clients l) e ≡ Some move → client_ranges.KeepsRanges move
+client_keeps config w l h client.Send move of shows ranged comes is = send_keeps (w.clients l) move of is
+client_keeps config w l h (client.Get envelope) move of shows ranged comes is =
+    get_keeps config w l comes.0 h envelope move shows of comes.1 (each_in IsRecord w.envelopes envelope ranged.envelopes (in_at w.envelopes comes.0 envelope comes.1)) is
+
+-- ---- both events
+
+-- a node's step is within the ranges, and keeps to them
+pub node_in_range : (config : Config) (w : World) (n : ℕ) (h : Ghost) (e : NodeEvent) (work : Work) → IsCluster config → n < config.nodes → w.events < 2 ^ 63 → Shows config w h → IsRanged w
+    → Comes w e → node_step (w.nodes n) e ≡ Some work
+    → IsWithin work × IsRanged (posted config (record w { nodes = put w.nodes n work.node }) (Node n) (map output_of work.sent) work.notes)
+node_in_range config w n h e work cluster there few shows ranged comes is =
+    let keeps = node_keeps config w n h e work cluster there few shows ranged comes is in
+    (keeps.within, node_posts config w n work ranged keeps)
+
+-- and so does a client's
+pub client_in_range : (config : Config) (w : World) (l : ℕ) (h : Ghost) (e : ClientEvent) (move : ClientWork) → IsCluster config → IsTrue (is_lane config l) → Shows config w h → IsRanged w
+    → ComesToClient w e → client_step (w.clients l) e ≡ Some move
+    → IsInRange move × IsRanged (posted config (record w { clients = put w.clients l move.client }) (Client l) (map output_of move.sent) move.notes)
+client_in_range config w l h e move cluster there shows ranged comes is =
+    let keeps = client_keeps config w l h e move (client_of config w l h cluster there shows) shows ranged comes is in
+    (keeps.within, client_posts config w l move ranged keeps.letters)

@@ -1,0 +1,121 @@
+-- A call from its sending to its answer: it is sent, taken by an actor, handed on to the coordinator, answered.
+use Rattle.std.proofs.Common.{◌≡◌, ◌≢◌, ⊎_elim, ℕ, ◌+◌, ◌<◌, ◌≤◌, true, [], ◌∷◌, ◌++◌, length, Some, None, refl, sym, ap, ◌∙◌, subst}
+use Rattle.std.specs.Prelude.{IsTrue}
+use Rattle.fal_base.specs.declared.call.CallRec.{CallRec}
+use Rattle.fal_base.specs.declared.call.Config.{Config}
+use Rattle.fal_base.specs.declared.entry.Entry.TheVariants as entry
+use Rattle.fal_base.specs.declared.event.Actor.TheVariants.{Node}
+use Rattle.fal_base.specs.declared.reply.Reply.{Reply}
+use Rattle.fal_base.specs.Transcript.{call_of}
+use Rattle.fal_client.specs.Paths.{addressee}
+use Rattle.fal_node.specs.declared.batch.BatchCall.{BatchCall}
+use Rattle.fal_base.specs.Marks.{mark_of, last_mark, with_mark, is_newer}
+use Rattle.fal_wire.specs.declared.message.Message.TheVariants as message
+use Rattle.fal_wire.specs.Ops.{op_field}
+use Rattle.fal_story.proofs.Families.Asking.{asking_called, asking_put}
+use Rattle.fal_story.proofs.Families.Clear.{clear_put}
+use Rattle.fal_story.proofs.Families.Lanes.{lanes_idle, lanes_sent, lanes_handed, lanes_put, positive}
+use Rattle.fal_story.proofs.Families.OperationCalls.{operation_called, operation_moved, operation_sent}
+use Rattle.fal_story.proofs.Families.Plans.{plans_called, plans_put}
+use Rattle.fal_story.proofs.Families.Records.{records_handed, records_idle, records_sent, records_taken}
+use Rattle.fal_story.proofs.Families.Script.{script_answered, script_sent, script_handed, script_moved}
+use Rattle.fal_story.proofs.Good.{Good}
+use Rattle.fal_story.proofs.Lists.Grown.{put_all, put_other}
+use Rattle.fal_story.proofs.Phase.{Phase, Idle, Asked, Waits, Plans, Runs, Tells, Replies, IsFor, IsPast, IsSteady, IsTaken, IsUnanswered, goes_put, steady_same}
+use Rattle.fal_story.proofs.View.{IsPosted, plain, View}
+use Rattle.fal_story.specs.Clusters.{is_served}
+use Rattle.fal_story.specs.World.{put}
+
+-- the lane's next call
+pub record IsNext (config : Config) (v : View) (l : ℕ) (call : CallRec) : Type 0 where
+  pub idle : v.phase l ≡ Idle
+  pub named : call_of config l (v.seq l + 1) ≡ Some (plain call)
+  pub lane : call.id.client ≡ l
+  pub number : call.id.seq ≡ v.seq l + 1
+  pub served : IsTrue (is_served call.op)
+
+pub asked_good : (config : Config) (v : View) (l n : ℕ) (call : CallRec) → IsNext config v l call → op_field.Fits call.op → addressee v.map.table call.op ≡ Node n → Good config v
+    → Good config (record v {
+      entries = v.entries ++ entry.Sent l (v.seq l + 1) ∷ [];
+      seq = put v.seq l (v.seq l + 1);
+      call = put v.call l call;
+      since = put v.since l (length v.commits);
+      phase = put v.phase l (Asked n);
+    })
+asked_good config v l n call next fits to g = record {
+  ground = g.ground;
+  clear = clear_put g.clear l (Asked n) tt;
+  asking = asking_called g.asking (put v.since l (length v.commits)) l call (Asked n) (λ a ne. put_other v.since l (length v.commits) a ne) tt;
+  plans = plans_called g.plans l call (Asked n) tt;
+  lanes = lanes_sent g.lanes l call (Asked n) (record { no_done = λ k r e. absurd (cc); routed = λ m _ is. to ∙ ap Node is; served = next.served; fits = λ _. fits }) g.script.commits.older;
+  script = script_sent g.script l call (Asked n) next.named next.lane next.number;
+  records = records_sent g.records l call (Asked n) next.idle;
+  operation = operation_sent g.operation l call (Asked n) (λ e. let idle = next.idle in absurd (cc)) (λ e. absurd (cc));
+}
+
+-- a record that is newer than the last taken of its client is that of the call under way, which now waits here
+pub taken_good : (config : Config) (v : View) (e n p : ℕ) (c : CallRec) → IsPosted v.posts e (Node n) p (message.Call c)
+    → is_newer (mark_of c.id) (last_mark (v.taken n) c.id.client) ≡ true → Good config v
+    → Good config (record v { taken = put v.taken n (with_mark (v.taken n) c.id.client (mark_of c.id)); phase = put v.phase c.id.client (Waits n None) })
+taken_good config v e n p c sent newer g =
+    let l = c.id.client in
+    let was : (c ≡ v.call l) × (v.phase l ≡ Asked n) = ⊎_elim (λ x. x) (λ old. absurd (cc)) (g.records.requests e n p c sent) in
+    let live : IsUnanswered (v.phase l) = subst IsUnanswered (sym was.1) tt in
+    record {
+      ground = g.ground;
+      clear = clear_put g.clear l (Waits n None) tt;
+      asking = asking_put g.asking l (Waits n None) tt;
+      plans = plans_put g.plans l (Waits n None) tt;
+      lanes = lanes_put g.lanes l (Waits n None) live (λ m at. subst (IsFor m) (sym was.1) at) (λ k reply e. absurd (cc));
+      script = script_moved g.script (put v.phase l (Waits n None)) (goes_put v.phase l (Waits n None) live);
+      records = records_taken g.records n c was.0 was.1 newer;
+      operation = operation_moved g.operation (put v.phase l (Waits n None)) (steady_asked v.phase l n was.1);
+    }
+  where
+    steady_asked : (phase : ℕ → Phase) (l n : ℕ) → phase l ≡ Asked n → (a : ℕ) → IsSteady (phase a) (put phase l (Waits n None) a)
+    steady_asked phase l n asked = put_all (λ a q. IsSteady (phase a) q) phase l (Waits n None)
+        (record { runs = λ e. let none : Asked n ≡ Runs = sym asked ∙ e in absurd (cc); ran = λ e. absurd (cc); past = λ past. absurd (subst IsPast asked past) })
+        (λ a _. steady_same (phase a) (phase a) refl)
+
+-- the call with its hop raised
+abbrev pub handed : CallRec → CallRec
+handed call = record call { id = record call.id { hop = call.id.hop + 1 } }
+
+-- a planned call is handed on to the coordinator
+pub handed_good : (config : Config) (v : View) (l n : ℕ) (x : BatchCall) → v.phase l ≡ Plans n x → config.nodes ≤ 255 → Good config v
+    → Good config (record v { call = put v.call l (handed (v.call l)); phase = put v.phase l (Asked 255) })
+handed_good config v l n x is few g =
+    let c = handed (v.call l) in
+    let live : IsUnanswered (v.phase l) = subst IsUnanswered (sym is) tt in
+    record {
+      ground = g.ground;
+      clear = clear_put g.clear l (Asked 255) tt;
+      asking = asking_called g.asking v.since l c (Asked 255) (λ a ne. refl) tt;
+      plans = plans_called g.plans l c (Asked 255) tt;
+      lanes = lanes_handed g.lanes l c few live refl;
+      script = script_handed g.script l c (Asked 255) refl refl refl live;
+      records = records_handed g.records l c (Asked 255) (subst IsTaken (sym is) tt);
+      operation = operation_called g.operation l c (Asked 255) (λ e. absurd (cc)) (λ e. absurd (cc)) (λ past. absurd (subst IsPast is past));
+    }
+
+-- the lane's call is answered
+pub heard_good : (config : Config) (v : View) (l k : ℕ) (reply : Reply) → v.phase l ≡ Tells (Replies k reply) → Good config v
+    → Good config (record v { entries = v.entries ++ entry.Answered l (v.seq l) k reply ∷ []; phase = put v.phase l Idle })
+heard_good config v l k reply done g =
+    let busy : v.phase l ≢ Idle = λ idle. absurd (cc) in
+    let above : 0 < v.seq l = positive g.lanes l busy in
+    record {
+      ground = g.ground;
+      clear = clear_put g.clear l Idle tt;
+      asking = asking_put g.asking l Idle tt;
+      plans = plans_put g.plans l Idle tt;
+      lanes = lanes_idle g.lanes l;
+      script = script_answered g.script l k reply above (λ i p r less h. g.script.once.unanswered l i p r busy h) (g.lanes.right l k reply done);
+      records = records_idle g.records l k reply done;
+      operation = operation_moved g.operation (put v.phase l Idle) (steady_idle v.phase l k reply done);
+    }
+  where
+    steady_idle : (phase : ℕ → Phase) (l k : ℕ) (reply : Reply) → phase l ≡ Tells (Replies k reply) → (a : ℕ) → IsSteady (phase a) (put phase l Idle a)
+    steady_idle phase l k reply done = put_all (λ a q. IsSteady (phase a) q) phase l Idle
+        (record { runs = λ e. let none : Tells (Replies k reply) ≡ Runs = sym done ∙ e in absurd (cc); ran = λ e. absurd (cc); past = λ past. tt })
+        (λ a _. steady_same (phase a) (phase a) refl)

@@ -1,0 +1,40 @@
+-- What stands in the tree: rows by who owns them, directories, and the keys to which walks come.
+use Rattle.std.proofs.Common.{◌≡◌, ℕ, true, List, length, Option, None}
+use Rattle.std.specs.Prelude.{◌==◌, if◌then◌else◌, IsSome, IsSomeAnd}
+use Rattle.fal_base.specs.declared.call.CallRec.{CallRec}
+use Rattle.fal_base.specs.declared.call.Config.{Config}
+use Rattle.fal_base.specs.declared.inode.Dentry.{Dentry}
+use Rattle.fal_base.specs.declared.inode.Inode.{Inode}
+use Rattle.fal_base.specs.declared.key.Key.{Key}
+use Rattle.fal_base.specs.Commits.{Commit, tree_at}
+use Rattle.fal_base.specs.Tree.{Tree, row_at}
+use Rattle.fal_base.specs.Walk.{is_dir, dentry_of}
+use Rattle.fal_dentry.specs.TreeWalk.{way}
+use Rattle.fal_dentry.specs.Walk.{is_among}
+use Rattle.fal_exec.specs.RowCall.{row_names}
+use Rattle.fal_place.specs.Placement.{Placement, opening_table, owner}
+
+abbrev pub tree_now : List Commit → Tree
+tree_now commits = tree_at commits (length commits)
+
+abbrev pub table_of : Config → Placement
+table_of config = opening_table config.nodes
+
+-- the tree's row, where the node owns the key
+abbrev pub row_of : Placement → Tree → ℕ → Key → Option Inode
+row_of table tree n key = if owner table key == n then row_at tree key else None
+
+-- the tree has a directory there, and this is what a replica keeps of it
+abbrev pub HasDir : Tree → Key → Dentry → Type 0
+HasDir tree key dentry = IsSomeAnd (row_at tree key) (λ dir. (is_dir dir ≡ true) × (dentry_of dir ≡ dentry))
+
+-- the walk of the call comes to the key: each directory before it is there and grants search
+abbrev pub Reaches : Tree → CallRec → Key → Type 0
+Reaches tree call key = IsSomeAnd (row_names call.op) (λ names. is_among key (way tree call.cred names) ≡ true)
+
+-- no row under the directory lives at the node; some row is under it
+abbrev pub NoneUnder : Placement → Tree → ℕ → ℕ → Type 0
+NoneUnder table tree n dir = (key : Key) → key.parent ≡ dir → owner table key ≡ n → row_at tree key ≡ None
+
+abbrev pub SomeUnder : Tree → ℕ → Type 0
+SomeUnder tree dir = (key : Key) × (key.parent ≡ dir) × IsSome (row_at tree key)

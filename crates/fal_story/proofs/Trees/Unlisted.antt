@@ -1,0 +1,62 @@
+-- The calls that are served are never answered with names.
+use Rattle.std.proofs.Common.{◌≡◌, ℕ, Bool, true, false, not, cond, List, [], ◌∷◌, Option, None, Some, refl, ap, ◌∙◌}
+use Rattle.std.specs.Prelude.{IsTrue, is_some}
+use Rattle.fal_base.specs.declared.call.Config.{Config}
+use Rattle.fal_base.specs.declared.call.Cred.{Cred}
+use Rattle.fal_base.specs.declared.entry.Entry.{Entry}
+use Rattle.fal_base.specs.declared.inode.Inode.{Inode}
+use Rattle.fal_base.specs.declared.key.Key.{Key}
+use Rattle.fal_base.specs.declared.op.Op.{Op}
+use Rattle.fal_base.specs.declared.op.Op.TheVariants as op
+use Rattle.fal_base.specs.declared.path.PathArg.{PathArg}
+use Rattle.fal_base.specs.declared.path.PathArg.TheVariants.{Good, Bad}
+use Rattle.fal_base.specs.declared.reply.Errno.{Errno}
+use Rattle.fal_base.specs.declared.reply.Errno.TheVariants.{Eacces, Eexist, Eisdir, Eperm}
+use Rattle.fal_base.specs.declared.reply.Reply.{Reply}
+use Rattle.fal_base.specs.declared.reply.Reply.TheVariants.{Fine, Fail, Stat, Names}
+use Rattle.fal_base.specs.Answer.{answer, checked, found, walked, reached, parent_grants}
+use Rattle.fal_base.specs.Listing.{AreListings}
+use Rattle.fal_base.specs.Transcript.{is_names}
+use Rattle.fal_base.specs.Tree.{Tree, row_at}
+use Rattle.fal_base.specs.Walk.{Walked, Stop, Ready, walk, is_dir, grants}
+use Rattle.fal_story.proofs.Events.ClientEvent.{call_is}
+use Rattle.fal_story.proofs.Families.Script.{Answers}
+use Rattle.fal_story.specs.Clusters.{IsCluster, is_served}
+
+checked_unlisted : (checks : List (Bool × Errno)) (reply : Reply) → is_names reply ≡ false → is_names (checked checks reply) ≡ false
+checked_unlisted [] reply is = is
+checked_unlisted (check ∷ checks) reply is = elim check.0 as (λ b. is_names (cond b (Fail check.1) (checked checks reply)) ≡ false) [ true ↦ refl | false ↦ checked_unlisted checks reply is ]
+
+found_unlisted : (row : Option Inode) (go : Inode → Reply) → ((inode : Inode) → is_names (go inode) ≡ false) → is_names (found row go) ≡ false
+found_unlisted None go is = refl
+found_unlisted (Some inode) go is = is inode
+
+walked_unlisted : (w : Walked) (go : Option Inode → List ℕ → Key → Reply) → ((dir : Option Inode) (passed : List ℕ) (last : Key) → is_names (go dir passed last) ≡ false) → is_names (walked w go) ≡ false
+walked_unlisted (Stop errno) go is = refl
+walked_unlisted (Ready dir passed last) go is = is dir passed last
+
+reached_unlisted : (tree : Tree) (cred : Cred) (path : PathArg) (go : Option Inode → Key → Option Inode → Reply)
+    → ((dir : Option Inode) (last : Key) (row : Option Inode) → is_names (go dir last row) ≡ false) → is_names (reached tree cred path go) ≡ false
+reached_unlisted tree cred (Bad fault raw) go is = refl
+reached_unlisted tree cred (Good names) go is = walked_unlisted (walk tree cred names) _ (λ dir passed last. is dir last (row_at tree last))
+
+served_unlisted : (tree : Tree) (cred : Cred) (call : Op) → IsTrue (is_served call) → is_names (answer tree cred call) ≡ false
+served_unlisted tree cred (op.Mkdir path mode) is = reached_unlisted tree cred path (λ parent last row. checked ((is_some row, Eexist) ∷ (not (parent_grants cred 2 parent), Eacces) ∷ []) Fine) (λ dir last row. checked_unlisted ((is_some row, Eexist) ∷ (not (parent_grants cred 2 dir), Eacces) ∷ []) Fine refl)
+served_unlisted tree cred (op.Create path mode) is = reached_unlisted tree cred path (λ parent last row. checked ((is_some row, Eexist) ∷ (not (parent_grants cred 2 parent), Eacces) ∷ []) Fine) (λ dir last row. checked_unlisted ((is_some row, Eexist) ∷ (not (parent_grants cred 2 dir), Eacces) ∷ []) Fine refl)
+served_unlisted tree cred (op.Stat path) is = reached_unlisted tree cred path (λ parent last row. found row (λ inode. Stat inode)) (λ dir last row. found_unlisted row (λ inode. Stat inode) (λ inode. refl))
+served_unlisted tree cred (op.Access path want) is = reached_unlisted tree cred path (λ parent last row. found row (λ inode. checked ((not (grants cred want inode), Eacces) ∷ []) Fine)) (λ dir last row. found_unlisted row (λ inode. checked ((not (grants cred want inode), Eacces) ∷ []) Fine) (λ inode. checked_unlisted ((not (grants cred want inode), Eacces) ∷ []) Fine refl))
+served_unlisted tree cred (op.Chmod path mode) is = absurd (cc)
+served_unlisted tree cred (op.Chown path uid gid) is = absurd (cc)
+served_unlisted tree cred (op.Truncate path size) is = reached_unlisted tree cred path (λ parent last row. found row (λ inode. checked ((is_dir inode, Eisdir) ∷ (not (grants cred 2 inode), Eacces) ∷ []) Fine)) (λ dir last row. found_unlisted row (λ inode. checked ((is_dir inode, Eisdir) ∷ (not (grants cred 2 inode), Eacces) ∷ []) Fine) (λ inode. checked_unlisted ((is_dir inode, Eisdir) ∷ (not (grants cred 2 inode), Eacces) ∷ []) Fine refl))
+served_unlisted tree cred (op.Unlink path) is = reached_unlisted tree cred path (λ parent last row. found row (λ inode. checked ((not (parent_grants cred 2 parent), Eacces) ∷ (is_dir inode, Eperm) ∷ []) Fine)) (λ dir last row. found_unlisted row (λ inode. checked ((not (parent_grants cred 2 dir), Eacces) ∷ (is_dir inode, Eperm) ∷ []) Fine) (λ inode. checked_unlisted ((not (parent_grants cred 2 dir), Eacces) ∷ (is_dir inode, Eperm) ∷ []) Fine refl))
+served_unlisted tree cred (op.Rmdir path) is = absurd (cc)
+served_unlisted tree cred (op.Rename old new) is = absurd (cc)
+served_unlisted tree cred (op.List path) is = absurd (cc)
+served_unlisted tree cred (op.Place name rule) is = absurd (cc)
+
+-- so there is no listing
+pub none_listed : (config : Config) (entries : List Entry) (seq : ℕ → ℕ) (phase : ℕ → _) → IsCluster config → Answers config entries seq phase → AreListings config entries
+none_listed config entries seq phase cluster answers j l s e names call is named =
+    let right = (answers j l s e (Names names) is).2 call named in
+    let none : true ≡ false = ap is_names right.served ∙ served_unlisted _ call.cred call.op (call_is config l s call cluster named).served in
+    absurd (cc)

@@ -1,0 +1,47 @@
+//! Messages on their way out, and their records.
+
+ghost use Rattle.std.specs.Prelude.{◌≡◌, IfOk, map};
+ghost use Rattle.std.specs.List.{All};
+ghost use Rattle.fal_wire.specs.Messages.{Fits};
+ghost use Rattle.fal_wire.specs.Letters.{output_of};
+
+use crate::encoding::encode;
+use crate::message::Message;
+use fal_base::{Actor, Items, OutOfMemory, Output, OutputList, Point};
+use std::alloc::Global;
+
+/// A message on its way out, before it is spelled: to whom it goes, and the point of the commits at which it is true.
+#[derive(Debug, Drop)]
+pub struct Letter {
+    pub to: Actor,
+    pub point: Point,
+    pub message: Message,
+}
+
+// The letter as it goes out.
+#[tactic(auto, unfolding(crate::specs::Letters::output_of))]
+fn output(alloc: Global, letter: &Letter) -> Result<Output, OutOfMemory>
+    requires { Fits letter.now.message }
+    ensures { IfOk result (λ output. output ≡ output_of letter.now) }
+{
+    let mut bytes = Vec::new(alloc);
+    encode(&letter.message, &mut bytes)?;
+    Ok(Output {
+        to: letter.to,
+        point: letter.point,
+        bytes: Items::from_items(bytes),
+    })
+}
+
+/// The letters as they go out, in their order. Each message has to be within the ranges of its record. Refused with want of memory alone.
+pub fn spelled(alloc: Global, letters: &[Letter]) -> Result<OutputList, OutOfMemory>
+    requires { All (λ letter. Fits letter.message) letters.now }
+    ensures { IfOk result (λ sent. sent ≡ map output_of letters.now) }
+{
+    let mut sent = OutputList::new(alloc);
+    for letter in letters {
+        let output = output(alloc, letter)?;
+        sent.push(output)?;
+    }
+    Ok(sent)
+}
