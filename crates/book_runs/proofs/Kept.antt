@@ -20,7 +20,7 @@ use Rattle.fal_story.specs.Clusters.{IsCluster}
 use Rattle.fal_story.specs.Lasting.{step_longer, replay_longer, sent_on}
 use Rattle.fal_story.specs.Machines.{Machine, machine_step, envelope_named}
 use Rattle.fal_story.specs.Pushing.{MayPush, all_sent}
-use Rattle.fal_story.specs.Replay.{try_step, machine_after, replay_from, opened, replay}
+use Rattle.fal_story.specs.Replay.{try_step, machine_after, replay_from, opening_machine, replay}
 use Rattle.fal_story.specs.Run.{IsLegal, run, machine_in}
 use Rattle.fal_story.specs.World.{World}
 use Rattle.fal_story.proofs.Histories.Numbers.{own_by_number}
@@ -68,9 +68,9 @@ more_seen has a m s t xs p same starts mine =
       there = p.there;
       number = same.1 ∙ p.number;
       seated = p.seated;
-      machine = ap (λ z. replay_from config z (Some (opened config a)) t.mine) longer
-          ∙ (ap (λ z. replay_from config (all_sent config s.seen ++ grows.rest) (Some (opened config a)) z) mine
-          ∙ replay_longer config (all_sent config s.seen) grows.rest (Some (opened config a)) s.mine m p.machine);
+      machine = ap (λ z. replay_from config z (Some (opening_machine config a)) t.mine) longer
+          ∙ (ap (λ z. replay_from config (all_sent config s.seen ++ grows.rest) (Some (opening_machine config a)) z) mine
+          ∙ replay_longer config (all_sent config s.seen) grows.rest (Some (opening_machine config a)) s.mine m p.machine);
       inbox = subst (λ z. All (IsSent z) xs) (sym longer)
           (all_on (IsSent (all_sent config s.seen)) (IsSent (all_sent config s.seen ++ grows.rest)) xs (λ a at. slice_get_front (all_sent config s.seen) grows.rest a.number a.envelope at) p.inbox);
     }
@@ -127,7 +127,7 @@ has_entered has a m after s t xs e o k p same entered makes =
     let longer : all_sent config t.seen ≡ sent ++ grows.rest = ap (λ z. all_sent config z) seen ∙ grows.is in
     let step : machine_step config m e (envelope_named (all_sent config t.seen) e) ≡ Some (after, o)
     = subst (λ z. machine_step config m e (envelope_named z e) ≡ Some (after, o)) (sym longer) (step_longer config sent grows.rest m e (after, o) makes) in
-    let first : Option Machine = Some (opened config a) in
+    let first : Option Machine = Some (opening_machine config a) in
     record {
       config = config;
       setting = q.setting;
@@ -173,7 +173,7 @@ seen_run has a m s xs p known =
     }
 
 -- an actor before its first event is at a new seat
-pub new_post : (has : Config → Bool) (a : Actor) (config : Config) (s : Seated) → IsCluster config → IsTrue (has config) → number_of a < 255 → IsNew config (number_of a) s → IsPost has a (opened config a) s []
+pub new_post : (has : Config → Bool) (a : Actor) (config : Config) (s : Seated) → IsCluster config → IsTrue (has config) → number_of a < 255 → IsNew config (number_of a) s → IsPost has a (opening_machine config a) s []
 unfolding replay
 new_post has a config s cluster there seated new = record {
   config = config;
@@ -182,6 +182,6 @@ new_post has a config s cluster there seated new = record {
   there = there;
   number = new.number;
   seated = seated;
-  machine = ap (λ z. replay_from config (all_sent config s.seen) (Some (opened config a)) z) new.mine;
+  machine = ap (λ z. replay_from config (all_sent config s.seen) (Some (opening_machine config a)) z) new.mine;
   inbox = All-nil (IsSent (all_sent config s.seen));
 }

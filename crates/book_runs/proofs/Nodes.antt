@@ -15,7 +15,7 @@ use Rattle.fal_node.specs.declared.event.NodeEvent.{NodeEvent}
 use Rattle.fal_node.specs.declared.event.NodeEvent.TheVariants as node
 use Rattle.fal_node.specs.declared.patch.Prepared.{Prepared}
 use Rattle.fal_node.specs.Letters.{Work}
-use Rattle.fal_node.specs.Patch.{Seen, patched}
+use Rattle.fal_node.specs.Patch.{SeenNode, patched}
 use Rattle.fal_node.specs.Ready.{IsStepOf, IsStepFor}
 use Rattle.fal_node.specs.State.{NodeState, opening_node}
 use Rattle.fal_node.specs.Step.{StaysWithin, node_step}
@@ -59,16 +59,16 @@ is_event config w number e (node.Exec batch) is = subst (λ z. IsEventOfNodeIn c
 is_event config w number e (node.Release batch) is = subst (λ z. IsEventOfNodeIn config (Some w) z number (node.Release batch)) (sym is) (of_release config (Some w) number batch refl)
 is_event config w number e (node.Serve item) is = subst (λ z. IsEventOfNodeIn config (Some w) z number (node.Serve item)) (sym is) (of_serve config (Some w) number item refl)
 
-made : (s : Seen) (o : Option Work) (p : Prepared) → IsStepOf s o p → node_made o ≡ Some (NodeMachine (patched s.state p.patch), p.outputs)
+made : (s : SeenNode) (o : Option Work) (p : Prepared) → IsStepOf s o p → node_made o ≡ Some (NodeMachine (patched s.state p.patch), p.outputs)
 made s None p step = absurd step
 made s (Some k) p step = λ i. Some (NodeMachine (step.node i), record { sent = sym step.sent i; notes = sym step.notes i })
 
-plain : (config : Config) (number : ℕ) (own : NodeEvent) (s : Seen) (p : Prepared) → IsTrue (is_node config number) → IsStepFor s own p
+plain : (config : Config) (number : ℕ) (own : NodeEvent) (s : SeenNode) (p : Prepared) → IsTrue (is_node config number) → IsStepFor s own p
     → node_made (only_where (is_node config number) (node_step s.state own)) ≡ Some (NodeMachine (patched s.state p.patch), p.outputs)
 plain config number own s p there step = ap (λ b. node_made (only_where b (node_step s.state own))) there ∙ made s (node_step s.state own) p step
 
 -- what was made ready is what the machine makes
-makes : (config : Config) (sent : List Envelope) (number : ℕ) (e : Event) (own : NodeEvent) (s : Seen) (p : Prepared) → IsTrue (is_node config number) → IsOwnOfNodeIn sent number e own → IsStepFor s own p
+makes : (config : Config) (sent : List Envelope) (number : ℕ) (e : Event) (own : NodeEvent) (s : SeenNode) (p : Prepared) → IsTrue (is_node config number) → IsOwnOfNodeIn sent number e own → IsStepFor s own p
     → machine_step config (NodeMachine s.state) e (envelope_named sent e) ≡ Some (NodeMachine (patched s.state p.patch), p.outputs)
 makes config sent number e (node.Deliver envelope) s p there is step =
     ap (λ z. machine_step config (NodeMachine s.state) z (envelope_named sent z)) is.1.0
@@ -94,7 +94,7 @@ node_ready number n s xs e own p known is =
     (subst (λ o. IsNodeIn o number n) (sym r.at) same)
 
 -- what was made ready may be entered
-pub node_may : (number : ℕ) (n : Seen) (s : Seated) (xs : List Arrived) (e : Event) (own : NodeEvent) (p : Prepared) (o : Outputs) → IsNodePost number n.state s xs → IsKnown s → IsOwnOfNode xs number e own
+pub node_may : (number : ℕ) (n : SeenNode) (s : Seated) (xs : List Arrived) (e : Event) (own : NodeEvent) (p : Prepared) (o : Outputs) → IsNodePost number n.state s xs → IsKnown s → IsOwnOfNode xs number e own
     → IsStepFor n own p → o ≡ p.outputs → MayEnter MayPush s.setting s.seen e o
 node_may number n s xs e own p o post known is step outputs =
     let its = is (all_sent post.config s.seen) post.inbox in
@@ -109,7 +109,7 @@ unfolding actor_number
 node_owns number n s xs e own post is = ap number_of (own_actor (all_sent post.config s.seen) number e own (is (all_sent post.config s.seen) post.inbox)) ∙ sym post.number
 
 -- once the event is entered, the node that it leaves is at the seat
-pub node_entered : (number : ℕ) (n : Seen) (s t : Seated) (xs : List Arrived) (e : Event) (own : NodeEvent) (p : Prepared) (k : ℕ) → IsNodePost number n.state s xs → IsOwnOfNode xs number e own
+pub node_entered : (number : ℕ) (n : SeenNode) (s t : Seated) (xs : List Arrived) (e : Event) (own : NodeEvent) (p : Prepared) (k : ℕ) → IsNodePost number n.state s xs → IsOwnOfNode xs number e own
     → IsStepFor n own p → IsSameSitting s t → Entered s t e k → IsNodePost number (patched n.state p.patch) t xs
 node_entered number n s t xs e own p k post is step same entered =
     let its = is (all_sent post.config s.seen) post.inbox in

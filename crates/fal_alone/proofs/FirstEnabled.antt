@@ -1,6 +1,6 @@
 -- The first fresh event of a legal run, other than a Send, is enabled.
-use Rattle.std.proofs.Common.{◌≡◌, ℕ, zero, suc, ◌+◌, ◌<◌, ◌≤◌, Bool, true, false, not, cond, List, [], ◌∷◌, ◌++◌, length, map, filter, Option, Some, None, IsTrue, refl, sym, ap, subst, ◌∙◌, arith, eqb-true, eq-eqb}
-use Rattle.std.specs.Prelude.{slice_get, IsSome}
+use Rattle.std.proofs.Common.{◌≡◌, ℕ, zero, suc, ◌+◌, ◌<◌, ◌≤◌, Bool, true, false, not, cond, List, [], ◌∷◌, ◌++◌, length, map, filter, Some, None, IsTrue, refl, sym, ap, subst, arith, eqb-true}
+use Rattle.std.specs.Prelude.{slice_get, is_some, IsSome}
 use Rattle.std.specs.List.{flat_map, range_with_len}
 use Rattle.std.proofs.lemmas.Bool.Decides.{nat_tests}
 use Rattle.fal_base.specs.declared.call.Config.{Config}
@@ -10,35 +10,34 @@ use Rattle.fal_base.specs.declared.event.Envelope.{Envelope}
 use Rattle.fal_base.specs.declared.event.Event.{Event}
 use Rattle.fal_base.specs.declared.event.Event.TheVariants as event
 use Rattle.fal_batch.specs.Plan.{is_idle}
-use Rattle.fal_client.specs.declared.event.ClientEvent.TheVariants as client
-use Rattle.fal_client.specs.State.{ClientState, Work as ClientWork}
-use Rattle.fal_client.specs.Step.{client_step, got, is_lane as is_for}
+use Rattle.fal_coord.specs.declared.event.CoordEvent.TheVariants as coord_event
+use Rattle.fal_coord.specs.Step.{coord_step}
 use Rattle.fal_node.specs.declared.batch.Batch.{Batch}
 use Rattle.fal_node.specs.declared.event.NodeEvent.TheVariants as node
 use Rattle.fal_node.specs.declared.event.OwnEvent.{OwnEvent}
 use Rattle.fal_node.specs.declared.event.OwnEvent.TheVariants as own
 use Rattle.fal_node.specs.declared.item.Item.{Item}
-use Rattle.fal_node.specs.Deliver.{delivered}
-use Rattle.fal_node.specs.Due.{event_of as own_event, dues, due_gather, due_execs, due_releases, due_serves}
+use Rattle.fal_node.specs.Due.{event_of, dues, due_gather, due_execs, due_releases, due_serves}
 use Rattle.fal_node.specs.Exec.{execute, executed}
 use Rattle.fal_node.specs.Gather.{plan_at, gathered}
-use Rattle.fal_node.specs.Letters.{Work, begun}
+use Rattle.fal_node.specs.Letters.{begun}
 use Rattle.fal_node.specs.Serve.{can_serve, serve, served}
 use Rattle.fal_node.specs.State.{NodeState, released}
-use Rattle.fal_node.specs.Step.{node_step, is_node as is_for_node, only_if, release}
+use Rattle.fal_node.specs.Step.{node_step, only_if, release}
 use Rattle.fal_alone.proofs.ItemNumbers.{HaveItems, legal_items}
+use Rattle.fal_alone.proofs.Resting.{sent_is_heard}
+use Rattle.fal_alone.proofs.Taken.{hears_own, takes_own, client_some, node_some, coord_some}
 use Rattle.fal_alone.specs.Turns.{deed_in}
 use Rattle.fal_story.proofs.Drain.Dues.{IsDue, due_is}
 use Rattle.fal_story.proofs.Lists.Each.{Each, Apart, each_weaker, each_join}
 use Rattle.fal_story.proofs.Drain.Follow.{IsFollowed}
 use Rattle.fal_story.proofs.Drain.FollowRuns.{legal_lives}
-use Rattle.fal_story.proofs.Drain.Unheard.{coord_unheard}
 use Rattle.fal_story.proofs.Events.LegalRuns.{IsKept}
 use Rattle.fal_story.proofs.Lists.Members.{in_at, at_in, each_in, each_by, each_map, each_filter, find_apart}
 use Rattle.fal_story.specs.Clusters.{is_lane, is_node}
-use Rattle.fal_story.specs.Fresh.{is_actor, due, event_of, fresh_gets, fresh_at_node, fresh_at_coord, fresh_replies, fresh_replies_at, first_reply, came}
-use Rattle.fal_story.specs.Machines.{only_where, client_hears, node_hears}
-use Rattle.fal_story.specs.Run.{client_deed, node_deed, deed, run, IsLegal}
+use Rattle.fal_story.specs.Fresh.{is_actor, due, event_of_node, fresh_gets, fresh_at_node, fresh_start, fresh_at_coord, fresh_replies, fresh_replies_at, first_reply, came}
+use Rattle.fal_story.specs.Machines.{client_hears, node_hears, coord_hears, coord_made}
+use Rattle.fal_story.specs.Run.{deed, deed_by, run, IsLegal}
 use Rattle.fal_story.specs.World.{World}
 
 -- ---- lists
@@ -63,6 +62,11 @@ to_node n (Client l) is = absurd (cc)
 to_node n (Node m) is = ap Node (sym (eqb-true n m is))
 to_node n Coord is = absurd (cc)
 
+to_coord : (to : Actor) → is_actor Coord to ≡ true → to ≡ Coord
+to_coord (Client l) is = absurd (cc)
+to_coord (Node n) is = absurd (cc)
+to_coord Coord is = refl
+
 -- what is due was sent
 due_stands : (a : Actor) (came : ℕ → Bool) (xs : List Envelope) (number : ℕ) (d : IsDue a came 0 xs number) → slice_get xs number ≡ Some d.envelope
 due_stands a came xs number d = subst (λ i. slice_get xs i ≡ Some d.envelope) (same d.at number d.is) d.stands
@@ -70,25 +74,11 @@ due_stands a came xs number d = subst (λ i. slice_get xs i ≡ Some d.envelope)
     same : (at number : ℕ) → number ≡ at + 0 → at ≡ number
     same at number is = omega arith
 
-client_takes : (c : ClientState) (lane : ℕ) (x : Envelope) → c.lane ≡ lane → x.to ≡ Client lane → IsSome (client_step c (client.Get x))
-unfolding client_step is_for got
-client_takes c lane x is to = subst (λ b. IsSome (got c x b)) (sym here) refl
-  where
-    here : is_for c.lane x.to ≡ true
-    here = ap (is_for c.lane) to ∙ eq-eqb lane c.lane (sym is)
-
-node_takes : (s : NodeState) (number : ℕ) (x : Envelope) → s.number ≡ number → x.to ≡ Node number → IsSome (node_step s (node.Deliver x))
-unfolding node_step
-node_takes s number x is to = subst (λ b. IsSome (only_if b (delivered s x))) (sym here) refl
-  where
-    here : is_for_node x.to s.number ≡ true
-    here = ap (λ a. is_for_node a s.number) to ∙ eq-eqb number s.number (sym is)
-
 -- ---- a node's own events
 
 -- the event is enabled
 abbrev IsOwn : NodeState → OwnEvent → Type 0
-IsOwn node e = IsSome (node_step node (own_event e))
+IsOwn node e = IsSome (node_step node (event_of e))
 
 gather_own : (node : NodeState) → Each (IsOwn node) (due_gather node)
 unfolding node_step
@@ -140,33 +130,29 @@ dues_own node batches items =
 abbrev IsEnabled : Config → World → Event → Type 0
 IsEnabled config w e = IsSome (deed config w e)
 
-client_some : (config : Config) (w : World) (l : ℕ) (o : Option ClientWork) → IsTrue (is_lane config l) → IsSome o → IsSome (client_deed w l (only_where (is_lane config l) o))
-client_some config w l None there some = absurd (cc)
-client_some config w l (Some m) there some = subst (λ b. IsSome (client_deed w l (only_where b (Some m)))) (sym there) refl
-
-node_some : (config : Config) (w : World) (n : ℕ) (o : Option Work) → IsTrue (is_node config n) → IsSome o → IsSome (node_deed w n (only_where (is_node config n) o))
-node_some config w n None there some = absurd (cc)
-node_some config w n (Some k) there some = subst (λ b. IsSome (node_deed w n (only_where b (Some k)))) (sym there) refl
-
-own_enabled : (config : Config) (w : World) (n : ℕ) (e : OwnEvent) → IsTrue (is_node config n) → IsOwn (w.nodes n) e → IsEnabled config w (event_of n e)
+own_enabled : (config : Config) (w : World) (n : ℕ) (e : OwnEvent) → IsTrue (is_node config n) → IsOwn (w.nodes n) e → IsEnabled config w (event_of_node n e)
 unfolding deed
-own_enabled config w n own.Gather there is = node_some config w n (node_step (w.nodes n) node.Gather) there is
-own_enabled config w n (own.Exec number) there is = node_some config w n (node_step (w.nodes n) (node.Exec number)) there is
-own_enabled config w n (own.Release number) there is = node_some config w n (node_step (w.nodes n) (node.Release number)) there is
-own_enabled config w n (own.Serve number) there is = node_some config w n (node_step (w.nodes n) (node.Serve number)) there is
+own_enabled config w n own.Gather there is = node_some w n (is_node config n) (node_step (w.nodes n) node.Gather) there is
+own_enabled config w n (own.Exec number) there is = node_some w n (is_node config n) (node_step (w.nodes n) (node.Exec number)) there is
+own_enabled config w n (own.Release number) there is = node_some w n (is_node config n) (node_step (w.nodes n) (node.Release number)) there is
+own_enabled config w n (own.Serve number) there is = node_some w n (is_node config n) (node_step (w.nodes n) (node.Serve number)) there is
+
+-- the coordinator hears what was sent to it
+abbrev Hears : World → Type 0
+Hears w = (number : ℕ) (x : Envelope) → slice_get w.envelopes number ≡ Some x → x.to ≡ Coord → IsSome (coord_step w.coord (coord_event.Hear x))
 
 module _ (config : Config) (w : World) (came : ℕ → Bool) (k : IsKept config w) where
   get_enabled : (l number : ℕ) → IsTrue (is_lane config l) → IsDue (Client l) came 0 w.envelopes number → IsEnabled config w (event.Get l number)
   unfolding deed
   get_enabled l number there d =
-      client_some config w l (client_hears (w.clients l) (slice_get w.envelopes number)) there
-      (subst (λ o. IsSome (client_hears (w.clients l) o)) (sym (due_stands (Client l) came w.envelopes number d)) (client_takes (w.clients l) l d.envelope (k.shows.heard l).lane (to_lane l d.envelope.to d.to)))
+      client_some w l (is_lane config l) (client_hears (w.clients l) (slice_get w.envelopes number)) there
+      (subst (λ o. IsSome (client_hears (w.clients l) o)) (sym (due_stands (Client l) came w.envelopes number d)) (hears_own (w.clients l) d.envelope l (k.shows.heard l).lane (to_lane l d.envelope.to d.to)))
 
   deliver_enabled : (n number : ℕ) → IsTrue (is_node config n) → IsDue (Node n) came 0 w.envelopes number → IsEnabled config w (event.Deliver n number)
   unfolding deed
   deliver_enabled n number there d =
-      node_some config w n (node_hears (w.nodes n) (slice_get w.envelopes number)) there
-      (subst (λ o. IsSome (node_hears (w.nodes n) o)) (sym (due_stands (Node n) came w.envelopes number d)) (node_takes (w.nodes n) n d.envelope (k.shows.placed n).number (to_node n d.envelope.to d.to)))
+      node_some w n (is_node config n) (node_hears (w.nodes n) (slice_get w.envelopes number)) there
+      (subst (λ o. IsSome (node_hears (w.nodes n) o)) (sym (due_stands (Node n) came w.envelopes number d)) (takes_own (w.nodes n) d.envelope n (k.shows.placed n).number (to_node n d.envelope.to d.to)))
 
   lane_enabled : (l : ℕ) → IsTrue (is_lane config l) → Each (IsEnabled config w) (fresh_gets w came l)
   lane_enabled l there =
@@ -175,13 +161,35 @@ module _ (config : Config) (w : World) (came : ℕ → Bool) (k : IsKept config 
 
   node_enabled : (n : ℕ) → IsTrue (is_node config n) → Each (IsOwn (w.nodes n)) (dues (w.nodes n)) → Each (IsEnabled config w) (fresh_at_node w came n)
   node_enabled n there owned =
-      each_join (IsEnabled config w) (map (λ envelope. event.Deliver n envelope) (due (Node n) came w.envelopes)) (map (λ e. event_of n e) (dues (w.nodes n)))
+      each_join (IsEnabled config w) (map (λ envelope. event.Deliver n envelope) (due (Node n) came w.envelopes)) (map (λ e. event_of_node n e) (dues (w.nodes n)))
       (each_map (IsEnabled config w) (λ envelope. event.Deliver n envelope) (due (Node n) came w.envelopes)
       (each_due (Node n) came w.envelopes (λ envelope. IsEnabled config w (event.Deliver n envelope)) (λ number d. deliver_enabled n number there d)))
-      (each_map (IsEnabled config w) (λ e. event_of n e) (dues (w.nodes n)) (each_weaker (IsOwn (w.nodes n)) _ (dues (w.nodes n)) (λ e is. own_enabled config w n e there is) owned))
+      (each_map (IsEnabled config w) (λ e. event_of_node n e) (dues (w.nodes n)) (each_weaker (IsOwn (w.nodes n)) _ (dues (w.nodes n)) (λ e is. own_enabled config w n e there is) owned))
 
-  replies_enabled : IsFollowed w came → HaveItems w → fresh_at_coord w came ≡ [] → Each (IsEnabled config w) (fresh_replies config w came)
-  replies_enabled f items unheard =
+  hear_enabled : Hears w → (number : ℕ) → IsDue Coord came 0 w.envelopes number → IsEnabled config w (event.Hear number)
+  unfolding deed
+  hear_enabled heard number d =
+      let stands = due_stands Coord came w.envelopes number d in
+      subst (λ o. IsSome (deed_by w Coord (coord_made (coord_hears w.coord o)))) (sym stands)
+      (coord_some w (coord_step w.coord (coord_event.Hear d.envelope)) (heard number d.envelope stands (to_coord d.envelope.to d.to)))
+
+  start_enabled : Each (IsEnabled config w) (fresh_start w)
+  unfolding deed
+  start_enabled =
+      elim (is_some (coord_step w.coord coord_event.Start)) as (λ b. is_some (coord_step w.coord coord_event.Start) ≡ b → Each (IsEnabled config w) (cond b (event.Start ∷ []) [])) [
+        | true ↦ λ is. (coord_some w (coord_step w.coord coord_event.Start) is, tt)
+        | false ↦ λ is. tt
+      ] refl
+
+  coord_enabled : Hears w → Each (IsEnabled config w) (fresh_at_coord w came)
+  coord_enabled heard =
+      each_join (IsEnabled config w) (map (λ number. event.Hear number) (due Coord came w.envelopes)) (fresh_start w)
+      (each_map (IsEnabled config w) (λ number. event.Hear number) (due Coord came w.envelopes)
+      (each_due Coord came w.envelopes (λ number. IsEnabled config w (event.Hear number)) (λ number d. hear_enabled heard number d)))
+      start_enabled
+
+  replies_enabled : IsFollowed w came → HaveItems w → Hears w → Each (IsEnabled config w) (fresh_replies config w came)
+  replies_enabled f items heard =
       let of_lanes = flat_map (λ lane. fresh_gets w came lane) (range_with_len 1 (length config.lanes)) in
       let of_nodes = flat_map (λ number. fresh_at_node w came number) (range_with_len 0 config.nodes) in
       each_join (IsEnabled config w) (of_lanes ++ of_nodes) (fresh_at_coord w came)
@@ -189,7 +197,7 @@ module _ (config : Config) (w : World) (came : ℕ → Bool) (k : IsKept config 
       (each_range (IsEnabled config w) (λ lane. fresh_gets w came lane) 1 (length config.lanes) (λ l low high. let there : IsTrue (is_lane config l) = grind (arith, nat_tests) in lane_enabled l there))
       (each_range (IsEnabled config w) (λ number. fresh_at_node w came number) 0 config.nodes
       (λ n low high. let there : IsTrue (is_node config n) = grind (arith, nat_tests) in node_enabled n there (dues_own (w.nodes n) (f.batches n).apart (items n).apart))))
-      (subst (Each (IsEnabled config w)) (sym unheard) tt)
+      (coord_enabled heard)
 
 -- the first fresh event after a legal run, other than a Send, is enabled
 pub first_enabled : (config : Config) (events : List Event) (e : Event) → IsLegal config events → first_reply config events ≡ Some e → IsSome (deed_in config (run config events) e)
@@ -199,5 +207,5 @@ first_enabled config events e legal first =
       | Some w ↦ λ at z.
           let live = legal_lives config events w legal at in
           each_in (IsEnabled config w) (fresh_replies config w (came events)) e
-          (replies_enabled config w (came events) live.0 live.1.followed (legal_items config events w legal at) (coord_unheard config events w legal at)) (in_at (fresh_replies config w (came events)) 0 e z)
+          (replies_enabled config w (came events) live.0 live.1.followed (legal_items config events w legal at) (sent_is_heard config events w legal at)) (in_at (fresh_replies config w (came events)) 0 e z)
     ] refl first

@@ -16,7 +16,7 @@ use Rattle.fal_story.specs.Run.{IsLegal, run, envelopes_at}
 use Rattle.fal_story.specs.Told.{Told}
 use Rattle.fal_story.specs.World.{World}
 use Rattle.fal_alone.specs.Queues.{QueueSeen, actor_at, HoldDue, HaveRoom, TakesItsOwn}
-use Rattle.fal_alone.specs.Turns.{world_of, envelopes_of, with_event, sent_by, NextIn}
+use Rattle.fal_alone.specs.Turns.{world_of, told_envelopes, with_event, sent_count, NextIn}
 
 -- ---- the envelopes before an event are the front of those after it
 
@@ -52,7 +52,7 @@ past_next xs c (event.Release n m) past takes k h = past k h
 past_next xs c (event.Serve n m) past takes k h = past k h
 past_next xs c event.Start past takes k h = past k h
 
-past_told : (told : Told) → IsLegal told.config told.events → (k : ℕ) → length (envelopes_of told) ≤ k → came told.events k ≡ false
+past_told : (told : Told) → IsLegal told.config told.events → (k : ℕ) → length (told_envelopes told) ≤ k → came told.events k ≡ false
 past_told told legal =
     elim (run told.config told.events) as (λ o. run told.config told.events ≡ o → IsSome o → (k : ℕ) → length (envelopes_at o) ≤ k → came told.events k ≡ false) [
       | None ↦ λ r some. absurd (cc)
@@ -62,34 +62,34 @@ past_told told legal =
 -- ---- what settling and catching up need
 
 -- the numbers of a queue rise
-pub held_rises : (lanes : ℕ) (told : Told) (queues : List QueueSeen) → HoldDue lanes (came told.events) (envelopes_of told) queues → (place : ℕ) (queue : QueueSeen) → slice_get queues place ≡ Some queue → Rises 0 queue.items
-held_rises lanes told queues held place queue at = subst (Rises 0) (sym (held place queue at)) (due_rises (actor_at lanes place) (came told.events) 0 (envelopes_of told))
+pub held_rises : (lanes : ℕ) (told : Told) (queues : List QueueSeen) → HoldDue lanes (came told.events) (told_envelopes told) queues → (place : ℕ) (queue : QueueSeen) → slice_get queues place ≡ Some queue → Rises 0 queue.items
+held_rises lanes told queues held place queue at = subst (Rises 0) (sym (held place queue at)) (due_rises (actor_at lanes place) (came told.events) 0 (told_envelopes told))
 
 -- a book after an event, and how many envelopes there were before it
 pub record IsAfter (told book : Told) (e : Event) (from : ℕ) : Type 0 where
   pub is : book ≡ with_event told e
-  pub count : from ≡ length (envelopes_of told)
-  pub begins : BeginsWith (envelopes_of told) (envelopes_of (with_event told e))
+  pub count : from ≡ length (told_envelopes told)
+  pub begins : BeginsWith (told_envelopes told) (told_envelopes (with_event told e))
 
 -- so it is after an event of an actor
-pub after_event : (told book : Told) (e : Event) (from : ℕ) (actor : Actor) (m : Machine) → book ≡ with_event told e → from ≡ length (envelopes_of told) → NextIn (world_of told) (world_of (with_event told e)) actor m → IsAfter told book e from
+pub after_event : (told book : Told) (e : Event) (from : ℕ) (actor : Actor) (m : Machine) → book ≡ with_event told e → from ≡ length (told_envelopes told) → NextIn (world_of told) (world_of (with_event told e)) actor m → IsAfter told book e from
 after_event told book e from actor m is count next = record { is = is; count = count; begins = grows (world_of told) (world_of (with_event told e)) actor m next }
 
 -- what came is settled, and the queues hold what is due of the front
-pub front_held : (lanes from : ℕ) (told book : Told) (e : Event) (queues : List QueueSeen) → IsAfter told book e from → HoldDue lanes (came_with e (came told.events)) (envelopes_of told) queues
-    → HoldDue lanes (came book.events) (take from (envelopes_of book)) queues
+pub front_held : (lanes from : ℕ) (told book : Told) (e : Event) (queues : List QueueSeen) → IsAfter told book e from → HoldDue lanes (came_with e (came told.events)) (told_envelopes told) queues
+    → HoldDue lanes (came book.events) (take from (told_envelopes book)) queues
 front_held lanes from told book e queues after held =
-    subst (λ (b : Told). HoldDue lanes (came b.events) (take from (envelopes_of b)) queues) (sym after.is)
-    (subst (λ c. HoldDue lanes c (take from (envelopes_of (with_event told e))) queues) (sym (came_snoc told.events e))
-    (subst (λ xs. HoldDue lanes (came_with e (came told.events)) xs queues) (sym (ap (λ n. take n (envelopes_of (with_event told e))) after.count ∙ after.begins.front)) held))
+    subst (λ (b : Told). HoldDue lanes (came b.events) (take from (told_envelopes b)) queues) (sym after.is)
+    (subst (λ c. HoldDue lanes c (take from (told_envelopes (with_event told e))) queues) (sym (came_snoc told.events e))
+    (subst (λ xs. HoldDue lanes (came_with e (came told.events)) xs queues) (sym (ap (λ n. take n (told_envelopes (with_event told e))) after.count ∙ after.begins.front)) held))
 
 -- none of the others came
-pub rest_fresh : (from : ℕ) (told book : Told) (e : Event) → IsAfter told book e from → IsLegal told.config told.events → TakesItsOwn e (envelopes_of told) → (k : ℕ) → from ≤ k → came book.events k ≡ false
+pub rest_fresh : (from : ℕ) (told book : Told) (e : Event) → IsAfter told book e from → IsLegal told.config told.events → TakesItsOwn e (told_envelopes told) → (k : ℕ) → from ≤ k → came book.events k ≡ false
 rest_fresh from told book e after legal takes k h =
     ap (λ (b : Told). came b.events k) after.is ∙ ap (λ c. c k) (came_snoc told.events e)
-    ∙ past_next (envelopes_of told) (came told.events) e (past_told told legal) takes k (let f = after.count in omega arith)
+    ∙ past_next (told_envelopes told) (came told.events) e (past_told told legal) takes k (let f = after.count in omega arith)
 
 -- there is room for them
-pub rest_fits : (from : ℕ) (told book : Told) (e : Event) (queues : List QueueSeen) → IsAfter told book e from → HaveRoom (sent_by told e) queues → HaveRoom (length (envelopes_of book) - from) queues
+pub rest_fits : (from : ℕ) (told book : Told) (e : Event) (queues : List QueueSeen) → IsAfter told book e from → HaveRoom (sent_count told e) queues → HaveRoom (length (told_envelopes book) - from) queues
 rest_fits from told book e queues after room =
-    subst (λ n. HaveRoom n queues) (sym (ap (λ (b : Told). length (envelopes_of b) - from) after.is ∙ ap (λ n. length (envelopes_of (with_event told e)) - n) after.count)) room
+    subst (λ n. HaveRoom n queues) (sym (ap (λ (b : Told). length (told_envelopes b) - from) after.is ∙ ap (λ n. length (told_envelopes (with_event told e)) - n) after.count)) room

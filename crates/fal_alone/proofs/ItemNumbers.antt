@@ -1,8 +1,8 @@
 -- The items of each node of a legal run differ by their numbers.
-use Rattle.std.proofs.Common.{◌≡◌, ℕ, ◌+◌, ◌<◌, true, false, cond, List, [], ◌∷◌, Option, Some, None, Result, Ok, Err, is_some, arith}
+use Rattle.std.proofs.Common.{◌≡◌, ℕ, ◌+◌, ◌<◌, true, false, cond, List, [], ◌∷◌, Option, Some, None, Result, Ok, Err, is_some, sym, subst, arith}
 use Rattle.std.specs.Prelude.{slice_get, ◌==◌}
 use Rattle.fal_base.specs.declared.call.CallRec.{CallRec}
-use Rattle.std.proofs.lemmas.Option.{none-some}
+use Rattle.std.proofs.lemmas.Option.{none-some, same_Some}
 use Rattle.fal_base.specs.declared.call.Config.{Config}
 use Rattle.fal_base.specs.declared.event.Actor.TheVariants.{Coord}
 use Rattle.fal_base.specs.declared.event.Envelope.{Envelope}
@@ -14,13 +14,16 @@ use Rattle.fal_batch.specs.Plan.{Planning}
 use Rattle.fal_client.specs.declared.event.ClientEvent.TheVariants as client
 use Rattle.fal_client.specs.State.{Work as ClientWork}
 use Rattle.fal_client.specs.Step.{client_step}
+use Rattle.fal_coord.specs.declared.event.CoordEvent.TheVariants as coord_event
+use Rattle.fal_coord.specs.State.{Work as CoordWork}
+use Rattle.fal_coord.specs.Step.{coord_step}
 use Rattle.fal_exec.specs.RowCall.{row_names}
 use Rattle.fal_node.specs.declared.batch.Batch.{Batch}
 use Rattle.fal_node.specs.declared.batch.BatchCall.{BatchCall}
 use Rattle.fal_node.specs.declared.event.NodeEvent.{NodeEvent}
 use Rattle.fal_node.specs.declared.event.NodeEvent.TheVariants.{Deliver, Gather, Exec, Release, Serve}
 use Rattle.fal_node.specs.declared.item.Item.{Item}
-use Rattle.fal_node.specs.Deliver.{admitted, installed, emptied, settle, settle_pending, take_message, take_read, delivered}
+use Rattle.fal_node.specs.Deliver.{admitted, learned, dismissed, settle, settle_pending, take_message, take_read, delivered}
 use Rattle.fal_node.specs.Exec.{exec_all, exec_one, exec_as, executed, with_executed}
 use Rattle.fal_node.specs.Gather.{plan_at, leaving, with_waiting, batch_calls, with_batch, batched, gathered}
 use Rattle.fal_node.specs.Letters.{Work, begun, is_asker}
@@ -36,7 +39,7 @@ use Rattle.fal_wire.specs.declared.message.Message.{Message}
 use Rattle.fal_wire.specs.declared.message.Message.TheVariants as message
 use Rattle.fal_wire.specs.Messages.{reading}
 use Rattle.fal_story.proofs.Lists.Each.{Each, Apart, each_weaker, each_join}
-use Rattle.fal_story.proofs.Events.Enabled.{delivers, gathers, execs, releases, serves}
+use Rattle.fal_story.proofs.Events.Enabled.{delivers, gathers, execs, releases, serves, served_is}
 use Rattle.fal_story.proofs.Lists.Grown.{put_all}
 use Rattle.fal_story.proofs.Lists.Members.{apart_push, each_without_first, apart_without_first}
 use Rattle.fal_story.proofs.Drain.MovingClient.{AfterClient}
@@ -70,18 +73,18 @@ asked_items x m h =
       below = each_join (λ (i : Item). i.number < x.items_numbered + 1) x.items (item ∷ []) (each_weaker _ _ x.items (λ i low. omega arith) h.below) (omega arith, tt);
     }
 
-installed_items : (x : NodeState) (number : ℕ) (key : Key) (dentry : Dentry) → HasItems x → HasItems (installed x number key dentry)
-unfolding installed
-installed_items x number key dentry h = record { apart = h.apart; below = h.below }
+learned_items : (x : NodeState) (number : ℕ) (key : Key) (dentry : Dentry) → HasItems x → HasItems (learned x number key dentry)
+unfolding learned
+learned_items x number key dentry h = record { apart = h.apart; below = h.below }
 
-emptied_items : (x : NodeState) (number : ℕ) (waiters : List ℕ) → HasItems x → HasItems (emptied x number waiters)
-unfolding emptied
-emptied_items x number waiters h = record { apart = h.apart; below = h.below }
+dismissed_items : (x : NodeState) (number : ℕ) (waiters : List ℕ) → HasItems x → HasItems (dismissed x number waiters)
+unfolding dismissed
+dismissed_items x number waiters h = record { apart = h.apart; below = h.below }
 
 settled_items : (x : NodeState) (point : ℕ) (key : Key) (what : Found) (fetch : PendingFetch) → HasItems x → HasItems (settle x point key what fetch).node
-settled_items x point key (found.Dir dentry) fetch h = installed_items x fetch.number key dentry h
-settled_items x point key found.Nothing fetch h = emptied_items x fetch.number fetch.waiters h
-settled_items x point key found.File fetch h = emptied_items x fetch.number fetch.waiters h
+settled_items x point key (found.Dir dentry) fetch h = learned_items x fetch.number key dentry h
+settled_items x point key found.Nothing fetch h = dismissed_items x fetch.number fetch.waiters h
+settled_items x point key found.File fetch h = dismissed_items x fetch.number fetch.waiters h
 
 pending_items : (x : NodeState) (point : ℕ) (key : Key) (what : Found) (o : Option PendingFetch) → HasItems x → HasItems (settle_pending x point key what o).node
 pending_items x point key what None h = h
@@ -127,13 +130,13 @@ unfolding released
 released_items x number h = record { apart = h.apart; below = h.below }
 
 served_items : (x : NodeState) (item : Item) → HasItems x → HasItems (served x item).node
-unfolding served without_item
+unfolding without_item
 served_items x item h =
     let test = λ (i : Item). i.number == item.number in
-    record {
+    subst (λ (k : Work). HasItems k.node) (sym (served_is x item)) (record {
       apart = apart_without_first (λ (i : Item). i.number) test x.items h.apart;
       below = each_without_first (λ (i : Item). i.number < x.items_numbered) test x.items h.below;
-    }
+    })
 
 step_items : (x : NodeState) (e : NodeEvent) (k : Work) → HasItems x → node_step x e ≡ Some k → HasItems k.node
 step_items x (Deliver envelope) k h is = delivers x envelope k (λ y. HasItems y.node) (λ to. delivered_items x envelope h) is
@@ -166,9 +169,10 @@ module _ (config : Config) (w : World) (h : HaveItems w) where
   node_keeps : (u : World) (n : ℕ) (e : NodeEvent) → done config (node_deed w n (only_where (is_node config n) (node_step (w.nodes n) e))) ≡ Some u → HaveItems u
   node_keeps u n e at = after_node config w u n (node_step (w.nodes n) e) HaveItems (λ k there is. node_items config w n k h (step_items (w.nodes n) e k (h n) is)) at
 
-  unheard : (u : World) (o : Option Envelope) → done config (deed_by w Coord (coord_made (coord_hears w.coord o))) ≡ Some u → HaveItems u
-  unheard u None at = absurd (none-some u at)
-  unheard u (Some x) at = absurd (none-some u at)
+  coord_keeps : (u : World) (o : Option CoordWork) → done config (deed_by w Coord (coord_made o)) ≡ Some u → HaveItems u
+  unfolding posted
+  coord_keeps u None at = absurd (none-some u at)
+  coord_keeps u (Some k) at = subst HaveItems (same_Some _ u at) h
 
   world_items : (u : World) (e : Event) → step config w e ≡ Some u → HaveItems u
   unfolding deed
@@ -181,8 +185,8 @@ module _ (config : Config) (w : World) (h : HaveItems w) where
   world_items u (event.Exec n number) at = node_keeps u n (Exec number) at
   world_items u (event.Release n number) at = node_keeps u n (Release number) at
   world_items u (event.Serve n number) at = node_keeps u n (Serve number) at
-  world_items u (event.Hear number) at = unheard u (slice_get w.envelopes number) at
-  world_items u event.Start at = absurd (none-some u at)
+  world_items u (event.Hear number) at = coord_keeps u (coord_hears w.coord (slice_get w.envelopes number)) at
+  world_items u event.Start at = coord_keeps u (coord_step w.coord coord_event.Start) at
 
 opening_items : (config : Config) → HaveItems (opening_world config)
 unfolding opening_node

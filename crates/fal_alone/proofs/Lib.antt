@@ -5,10 +5,12 @@ pub mod FreshRuns
 pub mod ItemNumbers
 pub mod NodeRows
 pub mod Openings
+pub mod OwnEvents
 pub mod Places
 pub mod Pushes
 pub mod QuietRuns
 pub mod Ranged
+pub mod Resting
 pub mod Roles
 pub mod RowLines
 pub mod Taken

@@ -6,7 +6,8 @@ use Rattle.fal_base.specs.declared.call.Config.{Config}
 use Rattle.fal_base.specs.declared.event.Event.{Event}
 use Rattle.fal_base.specs.Tree.{Tree}
 use Rattle.fal_client.specs.State.{ClientState}
-use Rattle.fal_node.specs.Patch.{Seen}
+use Rattle.fal_coord.specs.State.{CoordState}
+use Rattle.fal_node.specs.Patch.{SeenNode}
 use Rattle.fal_node.specs.State.{NodeState}
 use Rattle.fal_story.proofs.Trees.TreeRows.{rows_are_told, rows_once}
 use Rattle.fal_story.specs.AllRows.{AreOnce, all_rows, tree_left}
@@ -20,8 +21,8 @@ use Rattle.fal_alone.specs.Turns.{world_of}
 use Rattle.fal_alone.specs.Whole.{IsWhole, IsWholeAt}
 
 -- nodes that have these rows by number, from a first number on, have them in that order
-pub rows_by_number : (nodes : List Seen) (rows : ℕ → Tree) (from : ℕ) → ((i : ℕ) (n : Seen) → slice_get nodes i ≡ Some n → n.state.rows ≡ rows (from + i))
-    → map (λ (n : Seen). n.state.rows) nodes ≡ map rows (range_with_len from (length nodes))
+pub rows_by_number : (nodes : List SeenNode) (rows : ℕ → Tree) (from : ℕ) → ((i : ℕ) (n : SeenNode) → slice_get nodes i ≡ Some n → n.state.rows ≡ rows (from + i))
+    → map (λ (n : SeenNode). n.state.rows) nodes ≡ map rows (range_with_len from (length nodes))
 rows_by_number [] rows from are = refl
 rows_by_number (n ∷ nodes) rows from are =
     let start : from + 0 ≡ from = omega arith in
@@ -30,10 +31,10 @@ rows_by_number (n ∷ nodes) rows from are =
     (λ i. here i ∷ rest i)
 
 -- the rows of a whole cluster's nodes are the tree that the commits of its run leave
-pub whole_rows : (config : Config) (events : List Event) (clients : List ClientState) (nodes : List Seen) (queues : List QueueSeen) → IsLegal config events → IsWhole config events clients nodes queues
-    → all_rows (map (λ (n : Seen). n.state.rows) nodes) ≡ tree_left config events
-whole_rows config events clients nodes queues legal whole =
-    elim (run config events) as (λ o. run config events ≡ o → IsWholeAt (length config.lanes) o (came events) clients nodes queues → all_rows (map (λ (n : Seen). n.state.rows) nodes) ≡ tree_left config events) [
+pub whole_rows : (config : Config) (events : List Event) (clients : List ClientState) (nodes : List SeenNode) (coord : CoordState) (queues : List QueueSeen) → IsLegal config events → IsWhole config events clients nodes coord queues
+    → all_rows (map (λ (n : SeenNode). n.state.rows) nodes) ≡ tree_left config events
+whole_rows config events clients nodes coord queues legal whole =
+    elim (run config events) as (λ o. run config events ≡ o → IsWholeAt (length config.lanes) o (came events) clients nodes coord queues → all_rows (map (λ (n : SeenNode). n.state.rows) nodes) ≡ tree_left config events) [
       | None ↦ λ at is. absurd is
       | Some w ↦ λ at is.
           ap all_rows (rows_by_number nodes (λ n. (w.nodes n).rows) 0 (λ i n there. let same : i ≡ 0 + i = omega arith in ap (λ (s : NodeState). s.rows) (is.nodes_are i n there) ∙ ap (λ k. (w.nodes k).rows) same))

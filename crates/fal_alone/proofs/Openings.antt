@@ -4,7 +4,8 @@ use Rattle.std.specs.Prelude.{slice_get, unwrap_or}
 use Rattle.fal_base.specs.declared.call.Call.{Call}
 use Rattle.fal_base.specs.declared.call.Config.{Config}
 use Rattle.fal_client.specs.State.{ClientState, opening_client}
-use Rattle.fal_node.specs.Patch.{Seen}
+use Rattle.fal_coord.specs.State.{CoordState, opening_coord}
+use Rattle.fal_node.specs.Patch.{SeenNode}
 use Rattle.fal_node.specs.State.{opening_node}
 use Rattle.fal_story.proofs.Lists.Grown.{slice_get_snoc}
 use Rattle.fal_story.specs.Clusters.{calls_of_lane}
@@ -38,7 +39,7 @@ client_more config clients lane calls c number at is before =
     (is ∙ ap (λ n. opening_client n config.nodes calls) number ∙ ap (opening_client (length clients + 1) config.nodes) (calls_at config (length clients) calls at))
 
 -- one more node
-pub node_more : (config : Config) (nodes : List Seen) (n : Seen) → n.state ≡ opening_node (length nodes) config.nodes config.batch → AreNodes config nodes → AreNodes config (nodes ++ n ∷ [])
+pub node_more : (config : Config) (nodes : List SeenNode) (n : SeenNode) → n.state ≡ opening_node (length nodes) config.nodes config.batch → AreNodes config nodes → AreNodes config (nodes ++ n ∷ [])
 node_more config nodes n is before = one_more (λ number x. x.state ≡ opening_node number config.nodes config.batch) nodes n before is
 
 -- one more queue
@@ -46,12 +47,12 @@ pub queue_more : (queues : List QueueSeen) (queue : QueueSeen) → queue.items �
 queue_more queues queue is before = one_more (λ place q. q.items ≡ []) queues queue before is
 
 -- together they are a cluster of no event
-pub whole_opens : (config : Config) (clients : List ClientState) (nodes : List Seen) (queues : List QueueSeen) → length clients ≡ length config.lanes → AreClients config clients → length nodes ≡ config.nodes → AreNodes config nodes
-    → length queues ≡ length config.lanes + config.nodes → AreEmpty queues → IsWhole config [] clients nodes queues
+pub whole_opens : (config : Config) (clients : List ClientState) (nodes : List SeenNode) (coord : CoordState) (queues : List QueueSeen) → length clients ≡ length config.lanes → AreClients config clients → length nodes ≡ config.nodes → AreNodes config nodes
+    → coord ≡ opening_coord config.nodes → length queues ≡ length config.lanes + 1 + config.nodes → AreEmpty queues → IsWhole config [] clients nodes coord queues
 unfolding run came
-whole_opens config clients nodes queues lanes are_clients count are_nodes all empty = record {
+whole_opens config clients nodes coord queues lanes are_clients count are_nodes is_coord all empty = record {
   clients_count = lanes;
   nodes_count = count;
   queues_count = all;
-  at = record { clients_are = are_clients; nodes_are = are_nodes; queues_are = empty };
+  at = record { clients_are = are_clients; nodes_are = are_nodes; coord_is = is_coord; queues_are = empty };
 }

@@ -9,7 +9,7 @@ use Rattle.fal_client.specs.declared.current.Current.{Current}
 use Rattle.fal_client.specs.declared.event.ClientEvent.TheVariants as client
 use Rattle.fal_client.specs.State.{ClientState}
 use Rattle.fal_client.specs.Step.{client_step, sent_next}
-use Rattle.fal_node.specs.Patch.{Seen}
+use Rattle.fal_node.specs.Patch.{SeenNode}
 use Rattle.fal_alone.specs.Queues.{QueueSeen}
 use Rattle.fal_alone.specs.Shown.{all_lane_events, all_node_events}
 
@@ -83,7 +83,7 @@ no_lane lane (queue ∷ queues) [] e = refl
 no_lane lane (queue ∷ queues) (c ∷ clients) e = absurd (omega arith)
 
 -- with no node left, no node has an event
-pub no_node : (number : ℕ) (queues : List QueueSeen) (nodes : List Seen) → length nodes ≡ 0 → all_node_events number queues nodes ≡ []
+pub no_node : (number : ℕ) (queues : List QueueSeen) (nodes : List SeenNode) → length nodes ≡ 0 → all_node_events number queues nodes ≡ []
 no_node number [] nodes e = refl
 no_node number (queue ∷ queues) [] e = refl
 no_node number (queue ∷ queues) (n ∷ nodes) e = absurd (omega arith)

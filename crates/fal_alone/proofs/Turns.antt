@@ -10,26 +10,25 @@ use Rattle.fal_base.specs.declared.event.Envelope.{Envelope}
 use Rattle.fal_base.specs.declared.event.Event.{Event}
 use Rattle.fal_base.specs.declared.event.Event.TheVariants as event
 use Rattle.fal_base.specs.declared.event.Output.{Output}
-use Rattle.fal_client.specs.declared.event.ClientEvent.{ClientEvent}
 use Rattle.fal_client.specs.declared.event.ClientEvent.TheVariants as client
-use Rattle.fal_client.specs.State.{ClientState}
 use Rattle.fal_client.specs.Step.{client_step}
-use Rattle.fal_node.specs.declared.event.NodeEvent.{NodeEvent}
+use Rattle.fal_coord.specs.declared.event.CoordEvent.TheVariants as coord_event
+use Rattle.fal_coord.specs.Step.{coord_step}
 use Rattle.fal_node.specs.declared.event.NodeEvent.TheVariants as node
-use Rattle.fal_node.specs.State.{NodeState}
-use Rattle.fal_node.specs.Step.{node_step, is_node as is_for}
+use Rattle.fal_node.specs.Step.{node_step, is_to_node as is_for}
 use Rattle.fal_story.proofs.Histories.Books.{deed_does, run_snoc, then, world_then}
 use Rattle.fal_story.proofs.Events.Enabled.{delivers}
 use Rattle.fal_story.proofs.Events.EnabledClient.{gets_own}
 use Rattle.fal_story.proofs.Events.LegalRuns.{IsKept, legal_kept}
 use Rattle.fal_story.specs.Actors.{actor_of}
 use Rattle.fal_story.specs.Clusters.{is_lane, is_node}
-use Rattle.fal_story.specs.Machines.{Machine, ClientMachine, NodeMachine, Made, client_made, node_made, coord_made, client_hears, node_hears, coord_hears, envelope_named, machine_step, only_where}
+use Rattle.fal_story.specs.Machines.{Machine, Made, coord_made, client_hears, node_hears, coord_hears, envelope_named, machine_step, only_where}
 use Rattle.fal_story.specs.Run.{Deed, IsLegal, Follows, Makes, client_deed, deed, deed_by, done, envelopes_at, machine_in, node_deed, run, with_machine}
 use Rattle.fal_story.specs.Told.{Told}
-use Rattle.fal_story.specs.World.{World, posted, envelopes_of as envelopes_made}
+use Rattle.fal_story.specs.World.{World, posted, envelopes_of}
+use Rattle.fal_alone.proofs.Resting.{heard_was_sent}
 use Rattle.fal_alone.specs.Queues.{WasSentTo, TakesItsOwn}
-use Rattle.fal_alone.specs.Turns.{world_of, envelopes_of, with_event, deed_in, deed_after, sent_by, IsOwn, IsOwnIn, IsEventOfClient, IsEventOfClientIn, IsEventOfNode, IsEventOfNodeIn, IsClientIn, IsNodeIn, Next, NextIn}
+use Rattle.fal_alone.specs.Turns.{world_of, told_envelopes, with_event, deed_in, deed_after, sent_count, IsOwn, IsOwnIn, IsEventIn, IsStateIn, Next, NextIn}
 
 -- ---- what an enabled event takes
 
@@ -60,10 +59,14 @@ node_took w n number true (Some x) d placed at is =
       | Some k ↦ λ t z. (x, (at, delivers (w.nodes n) x k (λ _. x.to ≡ Node n) (λ to. node_to x.to (w.nodes n).number to ∙ ap Node placed) t))
     ] refl is
 
--- the coordinator hears nothing yet
-hears_nothing : (w : World) (o : Option Envelope) (d : Deed) → deed_by w Coord (coord_made (coord_hears w.coord o)) ≡ Some d → ⊥
-hears_nothing w None d is = none-some d is
-hears_nothing w (Some x) d is = none-some d is
+-- what comes to the coordinator was sent to it
+coord_took : (w : World) (number : ℕ) (o : Option Envelope) (d : Deed) → slice_get w.envelopes number ≡ o → deed_by w Coord (coord_made (coord_hears w.coord o)) ≡ Some d → WasSentTo Coord number w.envelopes
+coord_took w number None d at is = absurd (none-some d is)
+coord_took w number (Some x) d at is =
+    elim (coord_step w.coord (coord_event.Hear x)) as (λ k. coord_step w.coord (coord_event.Hear x) ≡ k → deed_by w Coord (coord_made k) ≡ Some d → WasSentTo Coord number w.envelopes) [
+      | None ↦ λ t z. absurd (none-some d z)
+      | Some k ↦ λ t z. (x, (at, heard_was_sent w.coord x k t))
+    ] refl is
 
 -- in a world that is kept, what an enabled event takes was sent to the actor that takes it
 takes_own : (config : Config) (w : World) (e : Event) (d : Deed) → IsKept config w → deed config w e ≡ Some d → TakesItsOwn e w.envelopes
@@ -75,7 +78,7 @@ takes_own config w (event.Gather n) d kept is = tt
 takes_own config w (event.Exec n batch) d kept is = tt
 takes_own config w (event.Release n batch) d kept is = tt
 takes_own config w (event.Serve n item) d kept is = tt
-takes_own config w (event.Hear number) d kept is = absurd (hears_nothing w (slice_get w.envelopes number) d is)
+takes_own config w (event.Hear number) d kept is = coord_took w number (slice_get w.envelopes number) d refl is
 takes_own config w event.Start d kept is = tt
 
 -- ---- what an enabled event adds
@@ -85,14 +88,14 @@ then_sent : (config : Config) (w : World) (e : Event) (d : Deed) → deed config
 unfolding posted
 then_sent config w e d is =
     let same = ap length (deed_does config w e d is).envelopes in
-    let all = length-append d.world.envelopes (envelopes_made d.from d.world.events (length d.world.commits) d.sent) in
-    let made : length (envelopes_made d.from d.world.events (length d.world.commits) d.sent) ≡ length d.sent = length-map d.sent _ in
+    let all = length-append d.world.envelopes (envelopes_of d.from d.world.events (length d.world.commits) d.sent) in
+    let made : length (envelopes_of d.from d.world.events (length d.world.commits) d.sent) ≡ length d.sent = length-map d.sent _ in
     omega arith
 
 -- what the event takes was sent to its actor, and it sends as many envelopes as these records
 pub record Adds (told : Told) (e : Event) (sent : List Output) : Type 0 where
-  pub takes : TakesItsOwn e (envelopes_of told)
-  pub sends : sent_by told e ≡ length sent
+  pub takes : TakesItsOwn e (told_envelopes told)
+  pub sends : sent_count told e ≡ length sent
 
 -- the world after an event is the one that its deed leaves
 after : (told : Told) (e : Event) (w : World) (d : Deed) → world_of told ≡ Some w → deed told.config w e ≡ Some d → world_of (with_event told e) ≡ Some (world_then told.config w d)
@@ -102,8 +105,8 @@ after told e w d at is = run_snoc told.config told.events e ∙ ap (λ o. then t
 adds : (told : Told) (e : Event) (w : World) (d : Deed) → IsLegal told.config told.events → world_of told ≡ Some w → deed told.config w e ≡ Some d → Adds told e d.sent
 adds told e w d legal at is =
     let config = told.config in
-    let before : length (envelopes_of told) ≡ length w.envelopes = ap (λ o. length (envelopes_at o)) at in
-    let behind : length (envelopes_of (with_event told e)) ≡ length w.envelopes + length d.sent = ap (λ o. length (envelopes_at o)) (after told e w d at is) ∙ then_sent config w e d is in
+    let before : length (told_envelopes told) ≡ length w.envelopes = ap (λ o. length (envelopes_at o)) at in
+    let behind : length (told_envelopes (with_event told e)) ≡ length w.envelopes + length d.sent = ap (λ o. length (envelopes_at o)) (after told e w d at is) ∙ then_sent config w e d is in
     record {
       takes = subst (λ o. TakesItsOwn e (envelopes_at o)) (sym at) (takes_own config w e d (legal_kept config told.events w legal at) is);
       sends = omega arith;
@@ -125,7 +128,7 @@ unfolding posted
 next_of config w e k is =
     let d = deed_made w e k in
     let does = deed_does config w e d is in
-    let sent = envelopes_made d.from d.world.events (length d.world.commits) d.sent in
+    let sent = envelopes_of d.from d.world.events (length d.world.commits) d.sent in
     record { clients = refl; nodes = refl; coord = refl; sent = sent; envelopes = ap (λ xs. xs ++ sent) does.envelopes }
 
 -- the event adds what was prepared to be sent, and the actor is in the state that it leads to
@@ -185,51 +188,35 @@ made_none told e m made is none =
 pub some_made : (told : Told) (e : Event) (m : Machine) (made : Option Made) (k : Made) → IsOwn told e m made → made ≡ Some k → IsNone (deed_after told e) → ⊥
 some_made told e m made k is some none = let gone : IsNone (Some k) = subst (λ o. IsNone o) some (made_none told e m made is none) in absurd (cc)
 
--- ---- the own events of clients and nodes
+-- ---- an own event, of an actor of whichever kind
 
--- a lane's client makes of the event what it makes of its own
-pub client_own : (told : Told) (e : Event) (lane : ℕ) (own : ClientEvent) (c : ClientState) → IsTrue (is_lane told.config lane) → IsEventOfClient told e lane own → IsClientIn (world_of told) lane c
-    → IsOwn told e (ClientMachine c) (client_made (client_step c own))
-client_own told e lane own c there is at =
-    elim (run told.config told.events) as (λ o. IsEventOfClientIn told.config o e lane own → IsClientIn o lane c → IsOwnIn told.config o e (ClientMachine c) (client_made (client_step c own))) [
-      | None ↦ λ i a. absurd i
-      | Some w ↦ λ i a. (
-        ap (machine_in w) i.by ∙ ap ClientMachine (sym a),
-        ap client_made (i.makes c ∙ ap (λ b. only_where b (client_step c own)) there),
-      )
-    ] is at
+module _ {State : Type 0} (told : Told) (e : Event) (actor : Actor) (there : Bool) (machine : State → Machine) (made : State → Option Made) (Takes : Option Envelope → Type 0)
+    (state : World → State) (stands : (w : World) → machine_in w actor ≡ machine (state w)) (is : IsEventIn told.config (world_of told) e actor there machine made Takes) where
+  -- an actor that is there makes of the event what it makes of its own
+  pub makes_own : (s : State) → IsTrue there → IsStateIn (world_of told) state s → IsOwn told e (machine s) (made s)
+  makes_own s here at =
+      elim (run told.config told.events) as (λ o. IsEventIn told.config o e actor there machine made Takes → IsStateIn o state s → IsOwnIn told.config o e (machine s) (made s)) [
+        | None ↦ λ i a. absurd i
+        | Some w ↦ λ i a. (
+          ap (machine_in w) i.by ∙ stands w ∙ ap machine (sym a),
+          i.makes s ∙ ap (λ b. only_where b (made s)) here,
+        )
+      ] is at
 
-pub node_own : (told : Told) (e : Event) (number : ℕ) (own : NodeEvent) (n : NodeState) → IsTrue (is_node told.config number) → IsEventOfNode told e number own → IsNodeIn (world_of told) number n
-    → IsOwn told e (NodeMachine n) (node_made (node_step n own))
-node_own told e number own n there is at =
-    elim (run told.config told.events) as (λ o. IsEventOfNodeIn told.config o e number own → IsNodeIn o number n → IsOwnIn told.config o e (NodeMachine n) (node_made (node_step n own))) [
-      | None ↦ λ i a. absurd i
-      | Some w ↦ λ i a. (
-        ap (machine_in w) i.by ∙ ap NodeMachine (sym a),
-        ap node_made (i.makes n ∙ ap (λ b. only_where b (node_step n own)) there),
-      )
-    ] is at
+  -- no event of one that is not there is enabled
+  pub none_absent : there ≡ false → IsNone (deed_after told e)
+  none_absent gone =
+      elim (run told.config told.events) as (λ o. IsEventIn told.config o e actor there machine made Takes → IsNone (deed_in told.config o e)) [
+        | None ↦ λ i. absurd i
+        | Some w ↦ λ i.
+            let nothing : IsOwnIn told.config (Some w) e (machine (state w)) None = (ap (machine_in w) i.by ∙ stands w, i.makes (state w) ∙ ap (λ b. only_where b (made (state w))) gone) in
+            subst (λ d. IsNone d) (sym (own_deed told.config w e (machine (state w)) None nothing)) refl
+      ] is
 
--- ---- actors that are not there
-
--- no event of a lane that is not there is enabled
-pub client_absent : (told : Told) (e : Event) (lane : ℕ) (own : ClientEvent) → is_lane told.config lane ≡ false → IsEventOfClient told e lane own → IsNone (deed_after told e)
-client_absent told e lane own gone is =
-    elim (run told.config told.events) as (λ o. IsEventOfClientIn told.config o e lane own → IsNone (deed_in told.config o e)) [
-      | None ↦ λ i. absurd i
-      | Some w ↦ λ i.
-          let c = w.clients lane in
-          let made : IsOwnIn told.config (Some w) e (ClientMachine c) None = (ap (machine_in w) i.by, ap client_made (i.makes c ∙ ap (λ b. only_where b (client_step c own)) gone)) in
-          subst (λ d. IsNone d) (sym (own_deed told.config w e (ClientMachine c) None made)) refl
-    ] is
-
--- nor one of a node that is not there
-pub node_absent : (told : Told) (e : Event) (number : ℕ) (own : NodeEvent) → is_node told.config number ≡ false → IsEventOfNode told e number own → IsNone (deed_after told e)
-node_absent told e number own gone is =
-    elim (run told.config told.events) as (λ o. IsEventOfNodeIn told.config o e number own → IsNone (deed_in told.config o e)) [
-      | None ↦ λ i. absurd i
-      | Some w ↦ λ i.
-          let n = w.nodes number in
-          let made : IsOwnIn told.config (Some w) e (NodeMachine n) None = (ap (machine_in w) i.by, ap node_made (i.makes n ∙ ap (λ b. only_where b (node_step n own)) gone)) in
-          subst (λ d. IsNone d) (sym (own_deed told.config w e (NodeMachine n) None made)) refl
-    ] is
+  -- whose event it is
+  pub made_by : actor_of e ≡ actor
+  made_by =
+      elim (run told.config told.events) as (λ o. IsEventIn told.config o e actor there machine made Takes → actor_of e ≡ actor) [
+        | None ↦ λ i. absurd i
+        | Some w ↦ λ i. i.by
+      ] is

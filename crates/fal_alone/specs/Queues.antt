@@ -1,5 +1,5 @@
--- The envelopes that each actor has yet to take, in one list of queues: those of the lanes first, from lane 1, then those of the nodes, from node 0.
-use Rattle.std.specs.Prelude.{◌≡◌, ◌≤◌, ◌+◌, ◌-◌, ◌++◌, ℕ, Bool, false, ◌&&◌, List, [], nat_lt, nat_le, Option, Some, None, slice_get, if◌then◌else◌}
+-- The envelopes that each actor has yet to take, in one list of queues: those of the lanes first, from lane 1, then the coordinator's, and then those of the nodes, from node 0. So the number of lanes alone tells whose queue stands at a place.
+use Rattle.std.specs.Prelude.{◌≡◌, ◌≤◌, ◌+◌, ◌-◌, ◌++◌, ℕ, zero, suc, Bool, false, ◌&&◌, List, [], nat_lt, nat_le, Option, Some, None, slice_get, if◌then◌else◌}
 use Rattle.fal_base.specs.declared.event.Actor.{Actor}
 use Rattle.fal_base.specs.declared.event.Actor.TheVariants.{Client, Node, Coord}
 use Rattle.fal_base.specs.declared.event.Envelope.{Envelope}
@@ -12,15 +12,20 @@ pub record QueueSeen : Type 0 where
   pub items : List ℕ
   pub spare : ℕ
 
+-- whose queue stands so many places after those of the lanes
+abbrev pub other_at : ℕ → Actor
+other_at zero = Coord
+other_at (suc number) = Node number
+
 -- whose queue stands at a place
 abbrev pub actor_at : ℕ → ℕ → Actor
-actor_at lanes place = if nat_lt place lanes then Client (place + 1) else Node (place - lanes)
+actor_at lanes place = if nat_lt place lanes then Client (place + 1) else other_at (place - lanes)
 
 -- the place of an actor's queue, if it has one
-abbrev pub place_of : ℕ → ℕ → Actor → Option ℕ
-place_of lanes nodes (Client lane) = if nat_lt 0 lane && nat_le lane lanes then Some (lane - 1) else None
-place_of lanes nodes (Node node) = if nat_lt node nodes then Some (lanes + node) else None
-place_of lanes nodes Coord = None
+abbrev pub queue_place : ℕ → ℕ → Actor → Option ℕ
+queue_place lanes nodes (Client lane) = if nat_lt 0 lane && nat_le lane lanes then Some (lane - 1) else None
+queue_place lanes nodes (Node node) = if nat_lt node nodes then Some (lanes + 1 + node) else None
+queue_place lanes nodes Coord = Some lanes
 
 -- the queue at each place holds these numbers
 abbrev pub Holds : (ℕ → List ℕ) → List QueueSeen → Type 0

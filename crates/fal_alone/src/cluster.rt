@@ -4,13 +4,14 @@ ghost use Rattle.fal_base.specs.declared.event.Event.TheVariants as event_seen;
 ghost use Rattle.fal_base.specs.declared.refuse.Refuse.TheVariants as refuse;
 ghost use Rattle.fal_story.specs.Clusters.{IsCluster};
 ghost use Rattle.fal_alone.specs.Queues.{WasSentTo};
-ghost use Rattle.fal_alone.specs.Turns.{envelopes_of, with_event, deed_after, IsEventOfClient, IsEventOfNode};
+ghost use Rattle.fal_alone.specs.Turns.{told_envelopes, with_event, deed_after, IsEventOfClient, IsEventOfNode, IsEventOfCoord};
 
 use crate::follow::{Counts, follow};
 use crate::opening::{clients_of, nodes_of, queues_of};
 use crate::queue::Queue;
 use fal_base::{Actor, Config, Duplicate, Envelope, Event, OutOfMemory, Refuse};
 use fal_client::{Client, ClientEvent};
+use fal_coord::{Coord, CoordEvent};
 use fal_node::{Node, NodeEvent};
 use fal_story::Book;
 use std::alloc::Global;
@@ -23,6 +24,7 @@ pub struct Cluster {
     pub(crate) book: Book,
     pub(crate) clients: Vec<Client>,
     pub(crate) nodes: Vec<Node>,
+    pub(crate) coord: Coord,
     pub(crate) queues: Vec<Queue>,
 }
 
@@ -34,7 +36,7 @@ impl Model for Cluster {
 
     ghost view = { λ c. c.book.told };
 
-    ghost invariant = { λ c. IsWhole c.book.told.config c.book.told.events c.clients.items c.nodes.items c.queues.items };
+    ghost invariant = { λ c. IsWhole c.book.told.config c.book.told.events c.clients.items c.nodes.items c.coord c.queues.items };
 }
 
 impl Cluster {
@@ -45,12 +47,14 @@ impl Cluster {
     {
         let clients = clients_of(alloc, &config)?;
         let nodes = nodes_of(alloc, &config)?;
-        let queues = queues_of(alloc, clients.len() + nodes.len())?;
+        let coord = Coord::new(alloc, config.nodes);
+        let queues = queues_of(alloc, clients.len() + 1 + nodes.len())?;
         Ok(Cluster {
             alloc,
             book: Book::new(alloc, config),
             clients,
             nodes,
+            coord,
             queues,
         })
     }
@@ -71,6 +75,7 @@ impl Cluster {
             book,
             clients: _clients,
             nodes: _nodes,
+            coord: _coord,
             queues: _queues,
         } = self;
         book
@@ -78,9 +83,9 @@ impl Cluster {
 
     // The envelope of this number, if it was sent to this actor.
     fn sent_to(&self, actor: Actor, number: u64) -> Result<Option<Envelope>, OutOfMemory>
-        ensures some { IfOk result (λ found. (envelope : EnvelopeSeen) → found ≡ Some envelope → (slice_get (envelopes_of self.now) number ≡ Some envelope) × (envelope.to ≡ actor)) }
-        ensures none { IfOk result (λ found. found ≡ None → WasSentTo actor number (envelopes_of self.now) → ⊥) }
-        ensures err { OnErr result (WasSentTo actor number (envelopes_of self.now)) }
+        ensures some { IfOk result (λ found. (envelope : EnvelopeSeen) → found ≡ Some envelope → (slice_get (told_envelopes self.now) number ≡ Some envelope) × (envelope.to ≡ actor)) }
+        ensures none { IfOk result (λ found. found ≡ None → WasSentTo actor number (told_envelopes self.now) → ⊥) }
+        ensures err { OnErr result (WasSentTo actor number (told_envelopes self.now)) }
     {
         let Some(envelope) = self.book.sent().get(number as usize) else {
             return Ok(None);
@@ -147,6 +152,29 @@ impl Cluster {
         Ok(())
     }
 
+    // An event of the coordinator.
+    fn coord_takes(&mut self, event: Event, own: CoordEvent) -> Result<(), Refuse>
+        requires { IsEventOfCoord self.old event own }
+        ensures ok { OnOk result (self.new ≡ with_event self.old event) }
+        ensures err { OnErr result (self.new ≡ self.old) }
+        ensures refused { IsErrOf result refuse.NotEnabled ↔ IsNone (deed_after self.old event) }
+    {
+        self.book.legal();
+        let counts = Counts {
+            lanes: self.clients.len(),
+            nodes: self.nodes.len(),
+        };
+        follow(
+            &mut self.book,
+            &mut self.coord,
+            self.queues.as_mut_slice(),
+            counts,
+            event,
+            &own,
+        )?;
+        Ok(())
+    }
+
     // A record comes to a lane.
     fn get(&mut self, event: Event, lane: u8, env: u64) -> Result<(), Refuse>
         requires { event ≡ event_seen.Get lane env }
@@ -177,11 +205,26 @@ impl Cluster {
         }
     }
 
+    // A record comes to the coordinator.
+    fn hear(&mut self, event: Event, env: u64) -> Result<(), Refuse>
+        requires { event ≡ event_seen.Hear env }
+        ensures ok { OnOk result (self.new ≡ with_event self.old event) }
+        ensures err { OnErr result (self.new ≡ self.old) }
+        ensures refused { IsErrOf result refuse.NotEnabled ↔ IsNone (deed_after self.old event) }
+    {
+        self.book.legal();
+        match self.sent_to(Actor::Coord, env) {
+            Err(OutOfMemory) => Err(Refuse::OutOfMemory),
+            Ok(None) => Err(Refuse::NotEnabled),
+            Ok(Some(envelope)) => self.coord_takes(event, CoordEvent::Hear(envelope)),
+        }
+    }
+
     /// One event, after which the cluster's run has it at its end.
     ///
     /// Refused with `NotEnabled` exactly where the event is not enabled after the run: its lane or node is not there, its envelope was
-    /// never sent or was sent to another actor, its batch or item is not there or not ready, or there is nothing to send or to gather; and
-    /// with `OutOfMemory`. Then the run stays as it was.
+    /// never sent or was sent to another actor, its batch or item is not there or not ready, or there is nothing to send, to gather or to
+    /// start; and with `OutOfMemory`. Then the run stays as it was.
     pub fn step(&mut self, event: Event) -> Result<(), Refuse>
         ensures ok { OnOk result (self.new ≡ with_event self.old event) }
         ensures err { OnErr result (self.new ≡ self.old) }
@@ -198,7 +241,8 @@ impl Cluster {
                 self.node_takes(event, node, NodeEvent::Release(batch))
             }
             Event::Serve { node, item } => self.node_takes(event, node, NodeEvent::Serve(item)),
-            Event::Hear { .. } | Event::Start => Err(Refuse::NotEnabled),
+            Event::Hear { env } => self.hear(event, env),
+            Event::Start => self.coord_takes(event, CoordEvent::Start),
         }
     }
 }

@@ -4,7 +4,7 @@ ghost use Rattle.fal_base.specs.declared.refuse.Refuse.TheVariants as refuse;
 ghost use Rattle.fal_story.specs.Actors.{actor_of};
 ghost use Rattle.fal_story.specs.Fresh.{came};
 ghost use Rattle.fal_alone.specs.Queues.{Holds, HoldDue};
-ghost use Rattle.fal_alone.specs.Turns.{world_of, envelopes_of, with_event, deed_after, IsOwn, NextIn};
+ghost use Rattle.fal_alone.specs.Turns.{world_of, told_envelopes, with_event, deed_after, IsOwn, NextIn};
 
 use crate::queue::Queue;
 use crate::queues::{catch_up, settle};
@@ -31,11 +31,11 @@ pub fn follow<R: Role>(
 ) -> Result<(), Refuse>
     requires is { IsOwn book.old.told event (R.machine actor.old) (R.made actor.old own.now) }
     requires can { R.can_make actor.old own.now }
-    requires size { length queues.old ≡ counts.lanes + counts.nodes }
-    requires queues { HoldDue counts.lanes (came book.old.told.events) (envelopes_of book.old.told) queues.old }
+    requires size { length queues.old ≡ counts.lanes + 1 + counts.nodes }
+    requires queues { HoldDue counts.lanes (came book.old.told.events) (told_envelopes book.old.told) queues.old }
     ensures book { OnOk result (book.new.told ≡ with_event book.old.told event) }
     ensures next { OnOk result (NextIn (world_of book.old.told) (world_of (with_event book.old.told event)) (actor_of event) (R.machine actor.new)) }
-    ensures queues { OnOk result (HoldDue counts.lanes (came (with_event book.old.told event).events) (envelopes_of (with_event book.old.told event)) queues.new) }
+    ensures queues { OnOk result (HoldDue counts.lanes (came (with_event book.old.told event).events) (told_envelopes (with_event book.old.told event)) queues.new) }
     ensures same_book { OnErr result (book.new.told ≡ book.old.told) }
     ensures same_actor { OnErr result (R.machine actor.new ≡ R.machine actor.old) }
     ensures same_queues { OnErr result ((numbers : ℕ → List ℕ) → Holds numbers queues.old → Holds numbers queues.new) }

@@ -1,17 +1,18 @@
 // Which events are fresh.
 ghost use Rattle.std.specs.Prelude.{◌≡◌, ◌+◌, ◌++◌, ◌≤◌, IfOk, OnOk, is_some, length, map, slice_get};
-ghost use Rattle.fal_base.specs.declared.event.Event.TheVariants as event_seen;
 ghost use Rattle.fal_client.specs.declared.event.ClientEvent.TheVariants as client_seen;
 ghost use Rattle.fal_client.specs.Step.{client_step};
 ghost use Rattle.fal_node.specs.Due.{dues};
-ghost use Rattle.fal_story.specs.Fresh.{first_reply, fresh_at, came, event_of as event_at};
-ghost use Rattle.fal_alone.specs.Shown.{gets, node_events, all_gets, all_node_events, sends, all_lane_events};
+ghost use Rattle.fal_story.specs.Fresh.{first_reply, fresh_at, came, event_of_node as event_at};
+ghost use Rattle.fal_alone.specs.Shown.{arrival as arrival_at, arrivals, gets, node_events, all_gets, all_node_events, starts, coord_events, sends, all_lane_events};
 ghost use Rattle.fal_alone.specs.Turns.{world_of};
 
 use crate::cluster::Cluster;
 use crate::queue::Queue;
-use fal_base::{Event, OutOfMemory};
+use crate::queues::split;
+use fal_base::{Actor, Event, OutOfMemory};
 use fal_client::Client;
+use fal_coord::Coord;
 use fal_node::{Node, OwnEvent};
 
 // A node's own event, as an event of the run.
@@ -29,6 +30,17 @@ fn event_of(number: u8, own: OwnEvent) -> Event
             batch,
         },
         OwnEvent::Serve(item) => Event::Serve { node: number, item },
+    }
+}
+
+// The envelope of this number comes to an actor.
+fn arrival(actor: Actor, env: u64) -> Event
+    ensures { result ≡ arrival_at actor env }
+{
+    match actor {
+        Actor::Client(lane) => Event::Get { lane, env },
+        Actor::Node(node) => Event::Deliver { node, env },
+        Actor::Coord => Event::Hear { env },
     }
 }
 
@@ -50,6 +62,17 @@ fn first_at_node(number: u8, queue: &Queue, node: &Node) -> Option<Event>
             let own = node.first_due()?;
             Some(event_of(number, own))
         }
+    }
+}
+
+// The first event of the coordinator: what comes, or else its Start.
+fn first_at_coord(queue: &Queue, coord: &Coord) -> Option<Event>
+    ensures { result ≡ slice_get (coord_events queue.now coord.now) 0 }
+{
+    match queue.first() {
+        Some(env) => Some(Event::Hear { env }),
+        None if coord.can_start() => Some(Event::Start),
+        None => None,
     }
 }
 
@@ -112,25 +135,13 @@ fn push_send(events: &mut Vec<Event>, lane: u8, client: &Client) -> Result<(), O
     Ok(())
 }
 
-// Puts what comes to a lane at the end.
-fn push_gets(events: &mut Vec<Event>, lane: u8, queue: &Queue) -> Result<(), OutOfMemory>
-    ensures { OnOk result (events.new.items ≡ events.old.items ++ gets lane queue.now) }
+// Puts what comes to an actor at the end.
+fn push_arrivals(events: &mut Vec<Event>, actor: Actor, queue: &Queue) -> Result<(), OutOfMemory>
+    ensures { OnOk result (events.new.items ≡ events.old.items ++ arrivals actor queue.now) }
 {
     let mut at = 0;
     while let Some(env) = queue.get(at) {
-        events.push(Event::Get { lane, env })?;
-        at += 1;
-    }
-    Ok(())
-}
-
-// Puts what comes to a node at the end.
-fn push_deliveries(events: &mut Vec<Event>, number: u8, queue: &Queue) -> Result<(), OutOfMemory>
-    ensures { OnOk result (events.new.items ≡ events.old.items ++ map (λ envelope. event_seen.Deliver number envelope) queue.now.items) }
-{
-    let mut at = 0;
-    while let Some(env) = queue.get(at) {
-        events.push(Event::Deliver { node: number, env })?;
+        events.push(arrival(actor, env))?;
         at += 1;
     }
     Ok(())
@@ -142,6 +153,16 @@ fn push_dues(events: &mut Vec<Event>, number: u8, node: &Node) -> Result<(), Out
 {
     for own in node.dues()? {
         events.push(event_of(number, own))?;
+    }
+    Ok(())
+}
+
+// Puts the coordinator's Start at the end, where it has one.
+fn push_start(events: &mut Vec<Event>, coord: &Coord) -> Result<(), OutOfMemory>
+    ensures { OnOk result (events.new.items ≡ events.old.items ++ starts coord.now) }
+{
+    if coord.can_start() {
+        events.push(Event::Start)?;
     }
     Ok(())
 }
@@ -163,7 +184,7 @@ fn push_lanes(
             return Ok(());
         };
         push_send(events, lane, client)?;
-        push_gets(events, lane, queue)?;
+        push_arrivals(events, Actor::Client(lane), queue)?;
         lane += 1;
         left = other_queues;
         rest = others;
@@ -183,7 +204,7 @@ fn push_nodes(events: &mut Vec<Event>, queues: &[Queue], nodes: &[Node]) -> Resu
         let Some((queue, other_queues)) = left.split_first() else {
             return Ok(());
         };
-        push_deliveries(events, number, queue)?;
+        push_arrivals(events, Actor::Node(number), queue)?;
         push_dues(events, number, node)?;
         number += 1;
         left = other_queues;
@@ -192,30 +213,44 @@ fn push_nodes(events: &mut Vec<Event>, queues: &[Queue], nodes: &[Node]) -> Resu
     Ok(())
 }
 
+// Puts all that is fresh at the coordinator at the end.
+fn push_coord(events: &mut Vec<Event>, queue: &Queue, coord: &Coord) -> Result<(), OutOfMemory>
+    ensures { OnOk result (events.new.items ≡ events.old.items ++ coord_events queue.now coord.now) }
+{
+    push_arrivals(events, Actor::Coord, queue)?;
+    push_start(events, coord)?;
+    Ok(())
+}
+
 impl Cluster {
-    /// The first fresh event other than a Send: by lane what comes to it, and then by node what comes to it and its own events. A record is
-    /// fresh where it did not come before. None exactly where no such event is fresh. It looks at no old envelope, and takes no memory.
+    /// The first fresh event other than a Send: by lane what comes to it, then by node what comes to it and its own events, and then what
+    /// comes to the coordinator and its Start. A record is fresh where it did not come before. None exactly where no such event is fresh. It
+    /// looks at no old envelope, and takes no memory.
     pub fn enabled(&self) -> Option<Event>
         ensures { result ≡ first_reply self.now.config self.now.events }
     {
         self.book.legal();
-        let (of_lanes, of_nodes) = self.queues.split_at(self.clients.len());
+        let (of_lanes, of_coord, of_nodes) = split(&self.queues, self.clients.len());
         match first_of_lanes(1, of_lanes) {
             Some(event) => Some(event),
-            None => first_of_nodes(0, of_nodes, &self.nodes),
+            None => match first_of_nodes(0, of_nodes, &self.nodes) {
+                Some(event) => Some(event),
+                None => first_at_coord(of_coord, &self.coord),
+            },
         }
     }
 
-    /// All fresh events, in their order: by lane its Send and then what comes to it, and by node what comes to it and then its own events.
-    /// Answers want of memory where there is too little.
+    /// All fresh events, in their order: by lane its Send and then what comes to it, by node what comes to it and then its own events, and
+    /// then what comes to the coordinator and its Start. Answers want of memory where there is too little.
     pub fn fresh(&self) -> Result<Vec<Event>, OutOfMemory>
         ensures { IfOk result (λ events. events.items ≡ fresh_at self.now.config (world_of self.now) (came self.now.events)) }
     {
         self.book.legal();
         let mut events = Vec::new(self.alloc);
-        let (of_lanes, of_nodes) = self.queues.split_at(self.clients.len());
+        let (of_lanes, of_coord, of_nodes) = split(&self.queues, self.clients.len());
         push_lanes(&mut events, of_lanes, &self.clients)?;
         push_nodes(&mut events, of_nodes, &self.nodes)?;
+        push_coord(&mut events, of_coord, &self.coord)?;
         Ok(events)
     }
 }

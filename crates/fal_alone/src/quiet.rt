@@ -22,11 +22,12 @@ fn are_quiet(nodes: &[Node]) -> bool
 }
 
 impl Cluster {
-    /// Whether every envelope came, and no node has a batch, a waiting call or an item. Takes no memory.
+    /// Whether every envelope came, no node has a batch, a waiting call or an item, and no call waits for the coordinator, which has no
+    /// operation under way. Takes no memory.
     pub fn quiet(&self) -> bool
         ensures { IsTrue result ↔ IsQuietAt self.now.config (world_of self.now) (came self.now.events) }
     {
         self.book.legal();
-        are_empty(&self.queues) && are_quiet(&self.nodes)
+        are_empty(&self.queues) && are_quiet(&self.nodes) && self.coord.quiet()
     }
 }

@@ -5,6 +5,7 @@ ghost use Rattle.fal_story.specs.Machines.{Machine, Made};
 
 use fal_base::{Outputs, Refuse};
 use fal_client::{Client, ClientEvent};
+use fal_coord::{Coord, CoordEvent};
 use fal_node::{Node, NodeEvent};
 
 /// An actor of a cluster: it prepares the step of an event of its own, and then makes it.
@@ -73,6 +74,36 @@ impl Role for Client {
     }
 
     fn make(&mut self, prepared: fal_client::Prepared) {
+        self.apply(prepared);
+    }
+}
+
+impl Role for Coord {
+    ghost use Rattle.fal_coord.specs.Patch.{patched};
+    ghost use Rattle.fal_coord.specs.Step.{CanMake, coord_step};
+    ghost use Rattle.fal_story.specs.Machines.{CoordMachine, coord_made};
+
+    type Own = CoordEvent;
+
+    type Prepared = fal_coord::Prepared;
+
+    ghost machine = { λ c. CoordMachine c };
+
+    ghost made = { λ c own. coord_made (coord_step c own) };
+
+    ghost can_make = { λ c own. CanMake c own };
+
+    ghost can_apply = { λ c prepared. Unit {0} };
+
+    ghost after = { λ c prepared. CoordMachine (patched c prepared.patch) };
+
+    fn prepare(&mut self, own: &CoordEvent) -> Result<(fal_coord::Prepared, Outputs), Refuse> {
+        let mut prepared = self.ready(own)?;
+        let outputs = prepared.take_outputs();
+        Ok((prepared, outputs))
+    }
+
+    fn make(&mut self, prepared: fal_coord::Prepared) {
         self.apply(prepared);
     }
 }

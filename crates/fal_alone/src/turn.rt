@@ -4,7 +4,7 @@ ghost use Rattle.fal_base.specs.declared.refuse.Refuse.TheVariants as refuse;
 ghost use Rattle.fal_story.specs.Actors.{actor_of};
 ghost use Rattle.fal_story.specs.Run.{Follows};
 ghost use Rattle.fal_alone.specs.Queues.{Holds, HaveRoom, TakesItsOwn};
-ghost use Rattle.fal_alone.specs.Turns.{world_of, envelopes_of, with_event, deed_after, sent_by, IsOwn, NextIn};
+ghost use Rattle.fal_alone.specs.Turns.{world_of, told_envelopes, with_event, deed_after, sent_count, IsOwn, NextIn};
 
 use crate::queue::Queue;
 use crate::queues::reserve;
@@ -43,8 +43,8 @@ pub fn turn<R: Role>(
     ensures queues { (numbers : ℕ → List ℕ) → Holds numbers queues.old → Holds numbers queues.new }
     ensures book { OnOk result (book.new.told ≡ with_event book.old.told event) }
     ensures next { OnOk result (NextIn (world_of book.old.told) (world_of (with_event book.old.told event)) (actor_of event) (R.machine actor.new)) }
-    ensures takes { OnOk result (TakesItsOwn event (envelopes_of book.old.told)) }
-    ensures room { OnOk result (HaveRoom (sent_by book.old.told event) queues.new) }
+    ensures takes { OnOk result (TakesItsOwn event (told_envelopes book.old.told)) }
+    ensures room { OnOk result (HaveRoom (sent_count book.old.told event) queues.new) }
     ensures same_book { OnErr result (book.new.told ≡ book.old.told) }
     ensures same_actor { OnErr result (R.machine actor.new ≡ R.machine actor.old) }
     ensures refused { IsErrOf result refuse.NotEnabled ↔ IsNone (deed_after book.old.told event) }

@@ -15,7 +15,7 @@ use Rattle.fal_base.specs.declared.path.PathArg.TheVariants.{Good}
 use Rattle.fal_base.specs.declared.reply.Reply.TheVariants.{Fine, Names}
 use Rattle.fal_base.specs.Commits.{tree_at}
 use Rattle.fal_base.specs.Listing.{HoldsBetween, IsListing, AreListings, StandsUnder}
-use Rattle.fal_base.specs.Transcript.{call_of, commits_of, at}
+use Rattle.fal_base.specs.Transcript.{call_of, commits_of}
 use Rattle.fal_base.specs.Tree.{Tree, key_cmp, key_of, same_key}
 use Rattle.fal_base.proofs.Maps.{same_key_is}
 

@@ -10,19 +10,23 @@ use Rattle.fal_base.specs.declared.inode.Kind.TheVariants.{Dir, File}
 use Rattle.fal_base.specs.declared.key.Key.{Key}
 use Rattle.fal_base.specs.declared.op.Op.{Op}
 use Rattle.fal_base.specs.declared.op.Op.TheVariants as op
-use Rattle.fal_base.specs.Change.{change, last_key, move, new_row, update}
-use Rattle.fal_base.specs.Commits.{Commit, tree_after, HasNumber, AreLegalFrom}
+use Rattle.fal_base.specs.Change.{change, last_key_of, move, new_row, update}
+use Rattle.fal_base.specs.Commits.{Commit, tree_after, HasNumber, AreLegal, AreLegalFrom}
 use Rattle.fal_base.specs.Tree.{Tree, tree0, root_key, row_at, with_row, without_row}
 use Rattle.fal_base.proofs.Maps.{put_cases, removed_cases}
 
 abbrev IsEarlier : List ℕ → ℕ → Type 0
 IsEarlier earlier n = (n ≡ 1) ⊎ (list_any (λ m. m == n) earlier ≡ true)
 
+-- rows with one number stand under one key
+abbrev pub DoNumbersDiffer : Tree → Type 0
+DoNumbersDiffer t = (a b : Key) (x y : Inode) → row_at t a ≡ Some x → row_at t b ≡ Some y → x.ino ≡ y.ino → a ≡ b
+
 pub record AreNumbered (t : Tree) (earlier : List ℕ) : Type 0 where
   pub some : (key : Key) (row : Inode) → row_at t key ≡ Some row → 0 ≢ row.ino
   -- the root's number, or that of an earlier commit
   pub given : (key : Key) (row : Inode) → row_at t key ≡ Some row → IsEarlier earlier row.ino
-  pub differ : (a b : Key) (x y : Inode) → row_at t a ≡ Some x → row_at t b ≡ Some y → x.ino ≡ y.ino → a ≡ b
+  pub differ : DoNumbersDiffer t
 
 more_earlier : (earlier : List ℕ) (n m : ℕ) → IsEarlier earlier n → IsEarlier (m ∷ earlier) n
 more_earlier earlier n m is = ⊎_elim (λ root. inl root) (λ e. inr (second (m == n) _ e)) is
@@ -126,20 +130,20 @@ move_numbered t earlier from to x =
     ] refl
 
 pub change_numbered : (t : Tree) (earlier : List ℕ) (cred : Cred) (call : Op) (ino : ℕ) → HasNumber call ino earlier → AreNumbered t earlier → AreNumbered (change t cred call ino) (ino ∷ earlier)
-change_numbered t earlier cred (op.Mkdir path mode) ino has x = new_numbered t earlier (last_key t cred path) (new_row cred Dir mode ino) has.0 has.1 has.2 x
-change_numbered t earlier cred (op.Create path mode) ino has x = new_numbered t earlier (last_key t cred path) (new_row cred File mode ino) has.0 has.1 has.2 x
+change_numbered t earlier cred (op.Mkdir path mode) ino has x = new_numbered t earlier (last_key_of t cred path) (new_row cred Dir mode ino) has.0 has.1 has.2 x
+change_numbered t earlier cred (op.Create path mode) ino has x = new_numbered t earlier (last_key_of t cred path) (new_row cred File mode ino) has.0 has.1 has.2 x
 change_numbered t earlier cred (op.Stat path) ino has x = more_numbered t earlier ino x
 change_numbered t earlier cred (op.Access path want) ino has x = more_numbered t earlier ino x
-change_numbered t earlier cred (op.Chmod path mode) ino has x = more_numbered _ earlier ino (update_numbered t earlier (last_key t cred path) (λ (z : Inode). record z { mode = mode }) (λ z. refl) x)
-change_numbered t earlier cred (op.Chown path uid gid) ino has x = more_numbered _ earlier ino (update_numbered t earlier (last_key t cred path) (λ (z : Inode). record z { uid = uid; gid = gid }) (λ z. refl) x)
-change_numbered t earlier cred (op.Truncate path size) ino has x = more_numbered _ earlier ino (update_numbered t earlier (last_key t cred path) (λ (z : Inode). record z { size = size }) (λ z. refl) x)
-change_numbered t earlier cred (op.Unlink path) ino has x = more_numbered _ earlier ino (gone_numbered t earlier (last_key t cred path) x)
-change_numbered t earlier cred (op.Rmdir path) ino has x = more_numbered _ earlier ino (gone_numbered t earlier (last_key t cred path) x)
-change_numbered t earlier cred (op.Rename old new) ino has x = more_numbered _ earlier ino (move_numbered t earlier (last_key t cred old) (last_key t cred new) x)
+change_numbered t earlier cred (op.Chmod path mode) ino has x = more_numbered _ earlier ino (update_numbered t earlier (last_key_of t cred path) (λ (z : Inode). record z { mode = mode }) (λ z. refl) x)
+change_numbered t earlier cred (op.Chown path uid gid) ino has x = more_numbered _ earlier ino (update_numbered t earlier (last_key_of t cred path) (λ (z : Inode). record z { uid = uid; gid = gid }) (λ z. refl) x)
+change_numbered t earlier cred (op.Truncate path size) ino has x = more_numbered _ earlier ino (update_numbered t earlier (last_key_of t cred path) (λ (z : Inode). record z { size = size }) (λ z. refl) x)
+change_numbered t earlier cred (op.Unlink path) ino has x = more_numbered _ earlier ino (gone_numbered t earlier (last_key_of t cred path) x)
+change_numbered t earlier cred (op.Rmdir path) ino has x = more_numbered _ earlier ino (gone_numbered t earlier (last_key_of t cred path) x)
+change_numbered t earlier cred (op.Rename old new) ino has x = more_numbered _ earlier ino (move_numbered t earlier (last_key_of t cred old) (last_key_of t cred new) x)
 change_numbered t earlier cred (op.List path) ino has x = more_numbered t earlier ino x
 change_numbered t earlier cred (op.Place name rule) ino has x = more_numbered t earlier ino x
 
-pub after_numbered : (t : Tree) (earlier : List ℕ) (cs : List Commit) → AreLegalFrom t earlier cs → AreNumbered t earlier → (numbers : List ℕ) × AreNumbered (tree_after t cs) numbers
+after_numbered : (t : Tree) (earlier : List ℕ) (cs : List Commit) → AreLegalFrom t earlier cs → AreNumbered t earlier → (numbers : List ℕ) × AreNumbered (tree_after t cs) numbers
 after_numbered t earlier [] legal x = (earlier, x)
 after_numbered t earlier (c ∷ cs) legal x = after_numbered (change t c.cred c.op c.ino) (c.ino ∷ earlier) cs legal.2 (change_numbered t earlier c.cred c.op c.ino legal.1 x)
 
@@ -155,3 +159,10 @@ start_numbered = record {
       (λ y. let none : row_at tree0 a ≡ None = y.1 in absurd (cc))
       (put_cases a root_key root []);
 }
+
+-- in the tree that legal commits leave
+pub numbers_after : (commits : List Commit) → AreLegal commits → (numbers : List ℕ) × AreNumbered (tree_after tree0 commits) numbers
+numbers_after commits legal = after_numbered tree0 [] commits legal start_numbered
+
+pub numbers_differ : (commits : List Commit) → AreLegal commits → DoNumbersDiffer (tree_after tree0 commits)
+numbers_differ commits legal = (numbers_after commits legal).1.differ

@@ -14,7 +14,7 @@ use Rattle.fal_base.specs.declared.inode.Kind.TheVariants.{Dir, File}
 use Rattle.fal_base.specs.declared.key.Key.{Key}
 use Rattle.fal_base.specs.declared.op.Op.{Op}
 use Rattle.fal_base.specs.declared.op.Op.TheVariants as op
-use Rattle.fal_base.specs.Change.{change, last_key, move, new_row, update}
+use Rattle.fal_base.specs.Change.{change, last_key_of, move, new_row, update}
 use Rattle.fal_base.specs.Tree.{Tree, key_cmp, row_at, with_row, without_row, IsInOrder}
 
 pub key_cmp_total : IsTotalOrder key_cmp
@@ -60,15 +60,15 @@ in_order_move tree from to sorted =
     ]
 
 pub in_order_change : (tree : Tree) (cred : Cred) (call : Op) (ino : ℕ) → IsInOrder tree → IsInOrder (change tree cred call ino)
-in_order_change tree cred (op.Mkdir path mode) ino sorted = in_order_with tree (last_key tree cred path) (new_row cred Dir mode ino) sorted
-in_order_change tree cred (op.Create path mode) ino sorted = in_order_with tree (last_key tree cred path) (new_row cred File mode ino) sorted
+in_order_change tree cred (op.Mkdir path mode) ino sorted = in_order_with tree (last_key_of tree cred path) (new_row cred Dir mode ino) sorted
+in_order_change tree cred (op.Create path mode) ino sorted = in_order_with tree (last_key_of tree cred path) (new_row cred File mode ino) sorted
 in_order_change tree cred (op.Stat path) ino sorted = sorted
 in_order_change tree cred (op.Access path want) ino sorted = sorted
-in_order_change tree cred (op.Chmod path mode) ino sorted = in_order_update tree (last_key tree cred path) _ sorted
-in_order_change tree cred (op.Chown path uid gid) ino sorted = in_order_update tree (last_key tree cred path) _ sorted
-in_order_change tree cred (op.Truncate path size) ino sorted = in_order_update tree (last_key tree cred path) _ sorted
-in_order_change tree cred (op.Unlink path) ino sorted = in_order_without tree (last_key tree cred path) sorted
-in_order_change tree cred (op.Rmdir path) ino sorted = in_order_without tree (last_key tree cred path) sorted
-in_order_change tree cred (op.Rename old new) ino sorted = in_order_move tree (last_key tree cred old) (last_key tree cred new) sorted
+in_order_change tree cred (op.Chmod path mode) ino sorted = in_order_update tree (last_key_of tree cred path) _ sorted
+in_order_change tree cred (op.Chown path uid gid) ino sorted = in_order_update tree (last_key_of tree cred path) _ sorted
+in_order_change tree cred (op.Truncate path size) ino sorted = in_order_update tree (last_key_of tree cred path) _ sorted
+in_order_change tree cred (op.Unlink path) ino sorted = in_order_without tree (last_key_of tree cred path) sorted
+in_order_change tree cred (op.Rmdir path) ino sorted = in_order_without tree (last_key_of tree cred path) sorted
+in_order_change tree cred (op.Rename old new) ino sorted = in_order_move tree (last_key_of tree cred old) (last_key_of tree cred new) sorted
 in_order_change tree cred (op.List path) ino sorted = sorted
 in_order_change tree cred (op.Place name rule) ino sorted = sorted

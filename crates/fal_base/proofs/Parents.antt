@@ -1,9 +1,7 @@
 -- Each key stands under a directory, and does so after a change that leaves none without one.
-use Rattle.std.proofs.Common.{◌≡◌, ◌≢◌, ⊎_elim, inl, inr, Bool, true, false, ◌||◌, ℕ, List, [], ◌∷◌, length, cond, Option, Some, None, refl, sym, ap, ◌∙◌, subst, arith}
-use Rattle.std.specs.Prelude.{◌==◌, map, filter}
+use Rattle.std.proofs.Common.{◌≡◌, ◌≢◌, ⊎_elim, inl, inr, Bool, true, false, ◌||◌, ℕ, List, [], ◌∷◌, cond, Option, Some, None, refl, sym, ap, ◌∙◌, subst, arith}
+use Rattle.std.specs.Prelude.{◌==◌}
 use Rattle.std.specs.List.{list_any}
-use Rattle.std.specs.declared.cmp.Ordering.TheVariants.{Less, Equal, Greater}
-use Rattle.std.specs.Ordering.{is_eq}
 use Rattle.std.proofs.lemmas.Bool.{eq-eqb}
 use Rattle.std.proofs.lemmas.Bool.Decides.{nat_tests}
 use Rattle.std.proofs.lemmas.Option.{same_Some}
@@ -12,10 +10,10 @@ use Rattle.fal_base.specs.declared.inode.Inode.{Inode}
 use Rattle.fal_base.specs.declared.key.Key.{Key}
 use Rattle.fal_base.specs.declared.reply.Errno.TheVariants.{Eacces, Enotdir}
 use Rattle.fal_base.specs.Answer.{has_entries}
-use Rattle.fal_base.specs.Tree.{Tree, key_cmp, key_of, root_key, row_at, with_row, without_row, names_under}
+use Rattle.fal_base.specs.Tree.{Tree, key_of, root_key, row_at, with_row, without_row}
 use Rattle.fal_base.specs.Walk.{Walked, Stop, Ready, walk, walk_from, into, passing, is_dir, grants}
+use Rattle.fal_base.proofs.Entries.{nothing_under}
 use Rattle.fal_base.proofs.Maps.{put_cases, removed_cases}
-use Rattle.fal_base.proofs.Order.{same_of_tied}
 
 -- a directory with this number
 pub record HasDir (tree : Tree) (number : ℕ) : Type 0 where
@@ -172,18 +170,5 @@ moved_under tree from to moved was from_not to_not above outside empty x = recor
 
 -- ---- an empty directory
 
-pub nothing_under : (tree : Tree) (n : ℕ) → length (names_under tree n) ≡ 0 → (q : Key) (row : Inode) → row_at tree q ≡ Some row → q.parent ≢ n
-nothing_under [] n none q row there under = absurd (cc)
-nothing_under (e ∷ es) n none q row there under =
-    elim (e.0.parent == n) as (λ b. (e.0.parent == n) ≡ b → length (map (λ (f : Key × Inode). f.0.name) (cond b (e ∷ filter (λ (f : Key × Inode). f.0.parent == n) es) (filter (λ (f : Key × Inode). f.0.parent == n) es))) ≡ 0 → ⊥) [
-      | true ↦ λ _ some. absurd (omega arith)
-      | false ↦ λ apart rest.
-          elim (key_cmp q e.0) as (λ r. key_cmp q e.0 ≡ r → cond (is_eq r) (Some e.1) (row_at es q) ≡ Some row → ⊥) [
-            | Less ↦ λ _ later. nothing_under es n rest q row later under
-            | Equal ↦ λ tied _. let wrong : true ≡ false = sym (eq-eqb e.0.parent n (ap (λ (k : Key). k.parent) (sym (same_of_tied q e.0 tied)) ∙ under)) ∙ apart in absurd (cc)
-            | Greater ↦ λ _ later. nothing_under es n rest q row later under
-          ] refl there
-    ] refl none
-
 pub empty_is : (tree : Tree) (dir : Inode) → has_entries tree dir ≡ false → (q : Key) (row : Inode) → row_at tree q ≡ Some row → q.parent ≢ dir.ino
-empty_is tree dir none = nothing_under tree dir.ino (grind (arith, nat_tests))
+empty_is tree dir none = nothing_under dir.ino tree (grind (arith, nat_tests))

@@ -10,7 +10,7 @@ use Rattle.fal_base.specs.declared.reply.Errno.{Errno}
 use Rattle.fal_base.specs.declared.reply.Reply.{Reply}
 use Rattle.fal_base.specs.declared.reply.Reply.TheVariants.{Fail}
 use Rattle.fal_base.specs.Answer.{found, reached, walked}
-use Rattle.fal_base.specs.Change.{is_fine, last_key}
+use Rattle.fal_base.specs.Change.{is_fine, last_key_of}
 use Rattle.fal_base.specs.Tree.{Tree, root_key, row_at}
 use Rattle.fal_base.specs.Walk.{Walked, Stop, Ready, walk}
 
@@ -50,7 +50,7 @@ was_ready (Stop errno) go fine = absurd (cc)
 was_ready (Ready parent passes last) go fine = record { parent = parent; passes = passes; last = last; ready = refl; fine = fine }
 
 -- where the walk of a path ended
-pub last_of : (tree : Tree) (cred : Cred) (names : List (List ℕ)) (parent : Option Inode) (passes : List ℕ) (last : Key) → walk tree cred names ≡ Ready parent passes last → last_key tree cred (Good names) ≡ last
+pub last_of : (tree : Tree) (cred : Cred) (names : List (List ℕ)) (parent : Option Inode) (passes : List ℕ) (last : Key) → walk tree cred names ≡ Ready parent passes last → last_key_of tree cred (Good names) ≡ last
 last_of tree cred names parent passes last ready = ap (λ (w : Walked). elim w [ Stop errno ↦ root_key | Ready parent passed last ↦ last ]) ready
 
 pub record IsReached (tree : Tree) (cred : Cred) (path : PathArg) (go : Option Inode → Key → Option Inode → Reply) : Type 0 where
@@ -59,7 +59,7 @@ pub record IsReached (tree : Tree) (cred : Cred) (path : PathArg) (go : Option I
   pub passes : List ℕ
   pub last : Key
   pub ready : walk tree cred names ≡ Ready parent passes last
-  pub key : last_key tree cred path ≡ last
+  pub key : last_key_of tree cred path ≡ last
   pub fine : is_fine (go parent last (row_at tree last)) ≡ true
 
 pub was_reached : (tree : Tree) (cred : Cred) (path : PathArg) (go : Option Inode → Key → Option Inode → Reply) → is_fine (reached tree cred path go) ≡ true → IsReached tree cred path go

@@ -15,7 +15,7 @@ use Rattle.fal_base.specs.declared.reply.Errno.TheVariants.{Eacces, Ebusy, Eexis
 use Rattle.fal_base.specs.declared.reply.Reply.{Reply}
 use Rattle.fal_base.specs.declared.reply.Reply.TheVariants.{Fine}
 use Rattle.fal_base.specs.Answer.{checked, found, has_entries, is_root, make_answer, parent_grants, rename_answer, replace_answer, rmdir_answer, unlink_answer, walked}
-use Rattle.fal_base.specs.Change.{change, is_fine, last_key, makes, move, new_row, update}
+use Rattle.fal_base.specs.Change.{change, is_fine, last_key_of, makes, move, new_row, update}
 use Rattle.fal_base.specs.Commits.{Commit, tree_after, tree_at, AreLegalFrom, AreLegal}
 use Rattle.fal_base.specs.Tree.{Tree, tree0, root_key, row_at, same_key, with_row, without_row, IsInOrder, IsWellFormed}
 use Rattle.fal_base.specs.Walk.{Ready, walk, is_dir}
@@ -39,7 +39,7 @@ not_dir tree key inode there file x e =
 
 -- ---- mkdir and create
 
-made_under : (tree : Tree) (cred : Cred) (path : PathArg) (kind : Kind) (mode ino : ℕ) → is_fine (make_answer tree cred path) ≡ true → AreUnder tree → AreUnder (with_row tree (last_key tree cred path) (new_row cred kind mode ino))
+made_under : (tree : Tree) (cred : Cred) (path : PathArg) (kind : Kind) (mode ino : ℕ) → is_fine (make_answer tree cred path) ≡ true → AreUnder tree → AreUnder (with_row tree (last_key_of tree cred path) (new_row cred kind mode ino))
 made_under tree cred path kind mode ino fine x =
     let r = was_reached tree cred path (λ parent last row. checked ((is_some row, Eexist) ∷ (not (parent_grants cred 2 parent), Eacces) ∷ []) Fine) fine in
     let none = none_of (row_at tree r.last) (passed (is_some (row_at tree r.last)) Eexist _ r.fine).0 in
@@ -64,7 +64,7 @@ updated_under tree key f kind number x =
 
 -- ---- unlink and rmdir
 
-unlinked_under : (tree : Tree) (cred : Cred) (path : PathArg) → is_fine (unlink_answer tree cred path) ≡ true → AreUnder tree → AreUnder (without_row tree (last_key tree cred path))
+unlinked_under : (tree : Tree) (cred : Cred) (path : PathArg) → is_fine (unlink_answer tree cred path) ≡ true → AreUnder tree → AreUnder (without_row tree (last_key_of tree cred path))
 unlinked_under tree cred path fine x =
     let r = was_reached tree cred path (λ parent last row. found row (λ inode. checked ((not (parent_grants cred 2 parent), Eacces) ∷ (is_dir inode, Eperm) ∷ []) Fine)) fine in
     let f = was_found (row_at tree r.last) (λ inode. checked ((not (parent_grants cred 2 r.parent), Eacces) ∷ (is_dir inode, Eperm) ∷ []) Fine) r.fine in
@@ -73,7 +73,7 @@ unlinked_under tree cred path fine x =
     (gone_under tree r.last (not_dir tree r.last f.inode f.there file x)
     (λ dir there is q row at under. let same : Some dir ≡ Some f.inode = sym there ∙ f.there in let one : dir ≡ f.inode = cc in let wrong : true ≡ false = sym is ∙ ap is_dir one ∙ file in absurd (cc)) x)
 
-removed_under : (tree : Tree) (earlier : List ℕ) (cred : Cred) (path : PathArg) → is_fine (rmdir_answer tree cred path) ≡ true → AreNumbered tree earlier → AreUnder tree → AreUnder (without_row tree (last_key tree cred path))
+removed_under : (tree : Tree) (earlier : List ℕ) (cred : Cred) (path : PathArg) → is_fine (rmdir_answer tree cred path) ≡ true → AreNumbered tree earlier → AreUnder tree → AreUnder (without_row tree (last_key_of tree cred path))
 removed_under tree earlier cred (Bad fault raw) fine n x = absurd (cc)
 removed_under tree earlier cred (Good []) fine n x = absurd (cc)
 removed_under tree earlier cred (Good (name ∷ names)) fine n x =
@@ -120,8 +120,8 @@ unlike : (b : Bool) → b ≡ false → (one rest : Reply) → is_fine (cond b o
 unlike true is one rest fine = absurd (cc)
 unlike false is one rest fine = fine
 
-renamed_under : (tree : Tree) (earlier : List ℕ) (cred : Cred) (old new : PathArg) → is_fine (rename_answer tree cred old new) ≡ true → same_key (last_key tree cred old) (last_key tree cred new) ≡ false → AreNumbered tree earlier → AreUnder tree
-    → AreUnder (move tree (last_key tree cred old) (last_key tree cred new))
+renamed_under : (tree : Tree) (earlier : List ℕ) (cred : Cred) (old new : PathArg) → is_fine (rename_answer tree cred old new) ≡ true → same_key (last_key_of tree cred old) (last_key_of tree cred new) ≡ false → AreNumbered tree earlier → AreUnder tree
+    → AreUnder (move tree (last_key_of tree cred old) (last_key_of tree cred new))
 renamed_under tree earlier cred (Bad fault raw) new fine apart n x = absurd (cc)
 renamed_under tree earlier cred (Good from) (Bad fault raw) fine apart n x = absurd (cc)
 renamed_under tree earlier cred (Good []) (Good to) fine apart n x = absurd (cc)
@@ -139,7 +139,7 @@ renamed_under tree earlier cred (Good (a ∷ more)) (Good (b ∷ others)) fine a
     let f = was_found (row_at tree w.last) (onto tree cred w.parent w.last v.parent v.passes v.last) v.fine in
     let from_key = last_of tree cred (a ∷ more) w.parent w.passes w.last w.ready in
     let to_key = last_of tree cred (b ∷ others) v.parent v.passes v.last v.ready in
-    let other : same_key w.last v.last ≡ false = ap (λ k. same_key k v.last) (sym from_key) ∙ ap (same_key (last_key tree cred (Good (a ∷ more)))) (sym to_key) ∙ apart in
+    let other : same_key w.last v.last ≡ false = ap (λ k. same_key k v.last) (sym from_key) ∙ ap (same_key (last_key_of tree cred (Good (a ∷ more)))) (sym to_key) ∙ apart in
     let checks = unlike (same_key w.last v.last) other _ _ f.fine in
     let grants = passed (not (parent_grants cred 2 w.parent && parent_grants cred 2 v.parent)) Eacces _ checks in
     let inside = passed (is_dir f.inode && list_any (λ ino. ino == f.inode.ino) v.passes) Einval _ grants.1 in
@@ -150,7 +150,7 @@ renamed_under tree earlier cred (Good (a ∷ more)) (Good (b ∷ others)) fine a
     (stays_outside v.passes f.inode v.last.parent inside.0 below.1)
     (λ dir there is. empty_is tree dir (replaced_empty tree f.inode (row_at tree v.last) inside.1 dir there is)) x in
     let moves : move tree w.last v.last ≡ with_row (without_row tree w.last) v.last f.inode = ap (λ (o : Option Inode). elim o [ None ↦ tree | Some inode ↦ with_row (without_row tree w.last) v.last inode ]) f.there in
-    subst (λ key. AreUnder (move tree key (last_key tree cred (Good (b ∷ others))))) (sym from_key) (subst (λ key. AreUnder (move tree w.last key)) (sym to_key) (subst AreUnder (sym moves) done))
+    subst (λ key. AreUnder (move tree key (last_key_of tree cred (Good (b ∷ others))))) (sym from_key) (subst (λ key. AreUnder (move tree w.last key)) (sym to_key) (subst AreUnder (sym moves) done))
 
 -- ---- any change
 
@@ -159,14 +159,14 @@ change_under tree earlier cred (op.Mkdir path mode) ino made n x = made_under tr
 change_under tree earlier cred (op.Create path mode) ino made n x = made_under tree cred path File mode ino made x
 change_under tree earlier cred (op.Stat path) ino made n x = x
 change_under tree earlier cred (op.Access path want) ino made n x = x
-change_under tree earlier cred (op.Chmod path mode) ino made n x = updated_under tree (last_key tree cred path) (λ (z : Inode). record z { mode = mode }) (λ z. refl) (λ z. refl) x
-change_under tree earlier cred (op.Chown path uid gid) ino made n x = updated_under tree (last_key tree cred path) (λ (z : Inode). record z { uid = uid; gid = gid }) (λ z. refl) (λ z. refl) x
-change_under tree earlier cred (op.Truncate path size) ino made n x = updated_under tree (last_key tree cred path) (λ (z : Inode). record z { size = size }) (λ z. refl) (λ z. refl) x
+change_under tree earlier cred (op.Chmod path mode) ino made n x = updated_under tree (last_key_of tree cred path) (λ (z : Inode). record z { mode = mode }) (λ z. refl) (λ z. refl) x
+change_under tree earlier cred (op.Chown path uid gid) ino made n x = updated_under tree (last_key_of tree cred path) (λ (z : Inode). record z { uid = uid; gid = gid }) (λ z. refl) (λ z. refl) x
+change_under tree earlier cred (op.Truncate path size) ino made n x = updated_under tree (last_key_of tree cred path) (λ (z : Inode). record z { size = size }) (λ z. refl) (λ z. refl) x
 change_under tree earlier cred (op.Unlink path) ino made n x = unlinked_under tree cred path made x
 change_under tree earlier cred (op.Rmdir path) ino made n x = removed_under tree earlier cred path made n x
 change_under tree earlier cred (op.Rename old new) ino made n x =
-    let both = both_are (not (same_key (last_key tree cred old) (last_key tree cred new))) (is_fine (rename_answer tree cred old new)) made in
-    renamed_under tree earlier cred old new both.1 (off (same_key (last_key tree cred old) (last_key tree cred new)) both.0) n x
+    let both = both_are (not (same_key (last_key_of tree cred old) (last_key_of tree cred new))) (is_fine (rename_answer tree cred old new)) made in
+    renamed_under tree earlier cred old new both.1 (off (same_key (last_key_of tree cred old) (last_key_of tree cred new)) both.0) n x
   where
     off : (b : Bool) → not b ≡ true → b ≡ false
     off true is = absurd (cc)

@@ -22,9 +22,9 @@ is_fine (Stat inode) = false
 is_fine (Names names) = false
 
 -- where a path's walk ends, or the root's key where it does not
-abbrev pub last_key : Tree → Cred → PathArg → Key
-last_key tree cred (Bad fault raw) = root_key
-last_key tree cred (Good names) = elim (walk tree cred names) [ Stop errno ↦ root_key | Ready parent passed last ↦ last ]
+abbrev pub last_key_of : Tree → Cred → PathArg → Key
+last_key_of tree cred (Bad fault raw) = root_key
+last_key_of tree cred (Good names) = elim (walk tree cred names) [ Stop errno ↦ root_key | Ready parent passed last ↦ last ]
 
 -- the eight operations that change the tree where they are answered Fine; a rename onto the same key changes nothing
 abbrev pub changes : Tree → Cred → Op → Bool
@@ -37,7 +37,7 @@ changes tree cred (op.Chown path uid gid) = true
 changes tree cred (op.Truncate path size) = true
 changes tree cred (op.Unlink path) = true
 changes tree cred (op.Rmdir path) = true
-changes tree cred (op.Rename old new) = not (same_key (last_key tree cred old) (last_key tree cred new))
+changes tree cred (op.Rename old new) = not (same_key (last_key_of tree cred old) (last_key_of tree cred new))
 changes tree cred (op.List path) = false
 changes tree cred (op.Place name rule) = false
 
@@ -59,15 +59,15 @@ move tree from to = elim (row_at tree from) [ None ↦ tree | Some inode ↦ wit
 
 -- the tree after the call, where it makes a commit; a new row has this number
 abbrev pub change : Tree → Cred → Op → ℕ → Tree
-change tree cred (op.Mkdir path mode) ino = with_row tree (last_key tree cred path) (new_row cred Dir mode ino)
-change tree cred (op.Create path mode) ino = with_row tree (last_key tree cred path) (new_row cred File mode ino)
+change tree cred (op.Mkdir path mode) ino = with_row tree (last_key_of tree cred path) (new_row cred Dir mode ino)
+change tree cred (op.Create path mode) ino = with_row tree (last_key_of tree cred path) (new_row cred File mode ino)
 change tree cred (op.Stat path) ino = tree
 change tree cred (op.Access path want) ino = tree
-change tree cred (op.Chmod path mode) ino = update tree (last_key tree cred path) (λ inode. record inode { mode = mode })
-change tree cred (op.Chown path uid gid) ino = update tree (last_key tree cred path) (λ inode. record inode { uid = uid; gid = gid })
-change tree cred (op.Truncate path size) ino = update tree (last_key tree cred path) (λ inode. record inode { size = size })
-change tree cred (op.Unlink path) ino = without_row tree (last_key tree cred path)
-change tree cred (op.Rmdir path) ino = without_row tree (last_key tree cred path)
-change tree cred (op.Rename old new) ino = move tree (last_key tree cred old) (last_key tree cred new)
+change tree cred (op.Chmod path mode) ino = update tree (last_key_of tree cred path) (λ inode. record inode { mode = mode })
+change tree cred (op.Chown path uid gid) ino = update tree (last_key_of tree cred path) (λ inode. record inode { uid = uid; gid = gid })
+change tree cred (op.Truncate path size) ino = update tree (last_key_of tree cred path) (λ inode. record inode { size = size })
+change tree cred (op.Unlink path) ino = without_row tree (last_key_of tree cred path)
+change tree cred (op.Rmdir path) ino = without_row tree (last_key_of tree cred path)
+change tree cred (op.Rename old new) ino = move tree (last_key_of tree cred old) (last_key_of tree cred new)
 change tree cred (op.List path) ino = tree
 change tree cred (op.Place name rule) ino = tree

@@ -16,4 +16,5 @@ pub mod Places
 pub mod Transcript
 pub mod Tree
 pub mod Unless
+pub mod Updates
 pub mod Walk

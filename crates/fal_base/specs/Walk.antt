@@ -31,6 +31,11 @@ dentry_of inode = record { ino = inode.ino; mode = inode.mode; uid = inode.uid; 
 abbrev pub dentry_grants : Cred → ℕ → Dentry → Bool
 dentry_grants cred want dentry = may cred.uid cred.gid dentry.mode dentry.uid dentry.gid want
 
+-- the same of a path's parent: there is none above the root, and then nothing is refused
+abbrev pub kept_grants : Cred → ℕ → Option Dentry → Bool
+kept_grants cred want None = true
+kept_grants cred want (Some dir) = dentry_grants cred want dir
+
 -- the walk has passed one more directory
 abbrev pub passing : ℕ → Walked → Walked
 passing ino (Stop errno) = Stop errno

@@ -1,4 +1,4 @@
-ghost use Rattle.std.specs.Prelude.{◌≡◌, ◌≤◌, IfOk, Ok, IsTrue, false};
+ghost use Rattle.std.specs.Prelude.{◌≡◌, ◌≤◌, ◌↔◌, IfOk, Ok, IsTrue, false};
 ghost use Rattle.std.specs.List.{list_all};
 ghost use Rattle.std.specs.Option.{option_copied};
 ghost use Rattle.fal_base.specs.Answer.{errno_of};
@@ -6,7 +6,7 @@ ghost use Rattle.fal_base.specs.OpPaths.{good_names, fault_of};
 ghost use Rattle.fal_base.specs.Unless.{UnlessMemory};
 ghost use Rattle.fal_base.specs.Names.{is_name};
 ghost use Rattle.fal_base.specs.Paths.{path_of, path_bytes, breaks, components};
-ghost use Rattle.fal_base.specs.PathArgs.{path_arg_of};
+ghost use Rattle.fal_base.specs.PathArgs.{IsRead, fault_in, path_arg_of};
 
 use crate::memory::{Duplicate, OutOfMemory};
 use crate::name::{self, Name};
@@ -110,28 +110,39 @@ fn names_of(alloc: Global, bytes: &[u8]) -> Result<NameList, OutOfMemory>
 }
 
 impl Path {
+    /// The lowest rule that the bytes break as a path, where they break one: `Relative` where they are empty or do not begin with a slash,
+    /// `TooLong` above 4,095 bytes, `NameTooLong` where a part between slashes has more than 255, `Dot` where one is `.` or `..`,
+    /// `ZeroByte` where a byte is zero. Takes no memory.
+    #[tactic(auto, unfolding(crate::specs::Paths::path_of))]
+    pub fn fault(bytes: &[u8]) -> Option<PathFault>
+        ensures { result ≡ fault_in bytes.now }
+    {
+        if bytes.first() != Some(&b'/') {
+            return Some(PathFault::Relative);
+        }
+        if bytes.len() > 4095 {
+            return Some(PathFault::TooLong);
+        }
+        if has_long_name(bytes) {
+            return Some(PathFault::NameTooLong);
+        }
+        if has_dot(bytes) {
+            return Some(PathFault::Dot);
+        }
+        if bytes.contains(&0) {
+            return Some(PathFault::ZeroByte);
+        }
+        None
+    }
+
     /// The path that the bytes spell: the parts between slashes that are not empty.
     ///
-    /// Refused with the lowest rule that is broken: `Relative` where they are empty or do not begin with a slash, `TooLong` above
-    /// 4,095 bytes, `NameTooLong` where a part has more than 255, `Dot` where one is `.` or `..`, `ZeroByte` where a byte is zero.
-    #[tactic(auto, unfolding(crate::specs::Paths::path_of))]
+    /// Refused with the lowest rule that is broken, as `fault` tells it, and with `OutOfMemory` for want of memory alone.
     pub fn read(alloc: Global, bytes: &[u8]) -> Result<Path, PathFault>
         ensures { UnlessMemory PathFault.OutOfMemory result (path_of bytes.now) }
     {
-        if bytes.first() != Some(&b'/') {
-            return Err(PathFault::Relative);
-        }
-        if bytes.len() > 4095 {
-            return Err(PathFault::TooLong);
-        }
-        if has_long_name(bytes) {
-            return Err(PathFault::NameTooLong);
-        }
-        if has_dot(bytes) {
-            return Err(PathFault::Dot);
-        }
-        if bytes.contains(&0) {
-            return Err(PathFault::ZeroByte);
+        if let Some(fault) = Path::fault(bytes) {
+            return Err(fault);
         }
         match names_of(alloc, bytes) {
             Ok(names) => Ok(Path { names }),
@@ -194,6 +205,16 @@ impl PathArg {
         match self {
             PathArg::Good(path) => Some(path),
             PathArg::Bad { .. } => None,
+        }
+    }
+
+    /// Whether its fault is that of its bytes, where it is bad. Takes no memory.
+    pub fn is_read(&self) -> bool
+        ensures { IsTrue result ↔ IsRead self.now }
+    {
+        match self {
+            PathArg::Good(_) => true,
+            PathArg::Bad { fault, raw } => Path::fault(raw.as_slice()) == Some(*fault),
         }
     }
 

@@ -3,7 +3,6 @@ pub mod Fetches
 pub mod FreeCalls
 pub mod Joining
 pub mod KeyLists
-pub mod LastName
 pub mod Open
 pub mod Shared
 pub mod Skipped

@@ -7,7 +7,7 @@ use Rattle.fal_base.specs.declared.call.CallRec.{CallRec}
 use Rattle.fal_base.specs.declared.key.Key.{Key}
 use Rattle.fal_dentry.specs.Walk.{is_among}
 use Rattle.fal_wait.specs.declared.waiting_call.WaitingCall.{WaitingCall}
-use Rattle.fal_wait.specs.Waiting.{WaitList, call_of, free_tickets}
+use Rattle.fal_wait.specs.Waiting.{WaitList, call_with_ticket, free_tickets}
 use Rattle.fal_batch.specs.declared.parts.Planned.{Planned}
 use Rattle.fal_batch.specs.Fate.{Setting, Fate, Skips, Leaves, Waits, Joins, fate}
 use Rattle.fal_batch.specs.Keys.{are_distinct}
@@ -39,7 +39,7 @@ module _ (s : Setting) (list : WaitList) where
   has : Key → Planned → Bool
   has key call = is_among key (planned_keys s list call)
 
-  union_fate : (p : Planning) (ticket : ℕ) (call : CallRec) (f : Fate) → call_of list ticket ≡ Some call → fate s call ≡ f → IsUnion s list p → IsUnion s list (after_fate s.limit p ticket f)
+  union_fate : (p : Planning) (ticket : ℕ) (call : CallRec) (f : Fate) → call_with_ticket list ticket ≡ Some call → fate s call ≡ f → IsUnion s list p → IsUnion s list (after_fate s.limit p ticket f)
   unfolding with_away with_wait with_planned
   union_fate p ticket call Skips is e h = h
   union_fate p ticket call (Leaves to) is e h = h
@@ -55,14 +55,14 @@ module _ (s : Setting) (list : WaitList) where
         | false ↦ h
       ]
 
-  union_one : (p : Planning) (ticket : ℕ) (call : CallRec) → call_of list ticket ≡ Some call → IsUnion s list p → IsUnion s list (plan_one s p (record { ticket = ticket; call = call; fetch = None }))
+  union_one : (p : Planning) (ticket : ℕ) (call : CallRec) → call_with_ticket list ticket ≡ Some call → IsUnion s list p → IsUnion s list (plan_one s p (record { ticket = ticket; call = call; fetch = None }))
   unfolding plan_one
   union_one p ticket call is h = union_fate p ticket call (fate s call) is refl h
 
   union_tickets : (p : Planning) (tickets : List ℕ) → IsUnion s list p → IsUnion s list (plan_calls s p (filter_map (λ ticket. free_call list ticket) tickets))
   union_tickets p [] h = h
   union_tickets p (t ∷ ts) h =
-      elim (call_of list t) as (λ o. call_of list t ≡ o → IsUnion s list (plan_calls s p (cons_option (option_map (λ call. record { ticket = t; call = call; fetch = None }) o) (filter_map (λ ticket. free_call list ticket) ts)))) [
+      elim (call_with_ticket list t) as (λ o. call_with_ticket list t ≡ o → IsUnion s list (plan_calls s p (cons_option (option_map (λ call. record { ticket = t; call = call; fetch = None }) o) (filter_map (λ ticket. free_call list ticket) ts)))) [
         | None ↦ λ is. union_tickets p ts h
         | Some call ↦ λ is. union_tickets (plan_one s p (record { ticket = t; call = call; fetch = None })) ts (union_one p t call is h)
       ] refl

@@ -7,7 +7,7 @@ use Rattle.fal_base.specs.declared.key.Key.{Key}
 use Rattle.fal_base.specs.Tree.{same_key}
 use Rattle.fal_dentry.specs.Walk.{is_among}
 use Rattle.fal_wait.specs.declared.waiting_call.WaitingCall.{WaitingCall}
-use Rattle.fal_wait.specs.Waiting.{WaitList, free_tickets, call_of}
+use Rattle.fal_wait.specs.Waiting.{WaitList, free_tickets, call_with_ticket}
 use Rattle.fal_batch.specs.declared.parts.Away.{Away}
 use Rattle.fal_batch.specs.declared.parts.Wanted.{Wanted}
 use Rattle.fal_batch.specs.declared.parts.Planned.{Planned}
@@ -30,7 +30,7 @@ no_plan = record { away = []; fetches = []; sends = []; calls = []; keys = [] }
 
 -- the call with a free ticket, if it is there
 abbrev pub free_call : WaitList → ℕ → Option WaitingCall
-free_call list ticket = option_map (λ call. record { ticket = ticket; call = call; fetch = None }) (call_of list ticket)
+free_call list ticket = option_map (λ call. record { ticket = ticket; call = call; fetch = None }) (call_with_ticket list ticket)
 
 -- the calls without a pending fetch, in the order of their arrival
 abbrev pub free_calls : WaitList → List WaitingCall
@@ -78,9 +78,9 @@ abbrev pub plan_calls : Setting → Planning → List WaitingCall → Planning
 plan_calls s plan calls = fold (λ plan waiting. plan_one s plan waiting) plan calls
 
 -- the plan after the call, where there is one
-abbrev pub plan_at : Setting → Planning → Option WaitingCall → Planning
-plan_at s plan None = plan
-plan_at s plan (Some waiting) = plan_one s plan waiting
+abbrev pub plan_if : Setting → Planning → Option WaitingCall → Planning
+plan_if s plan None = plan
+plan_if s plan (Some waiting) = plan_one s plan waiting
 
 -- the plan for all the free calls
 abbrev pub plan_of : Setting → WaitList → Planning
@@ -121,7 +121,7 @@ call_keys s (Some call) = path_keys s call (op_names call.op)
 
 -- the keys of a planned call: those that its walk finds, and the last one where it is not denied
 abbrev pub planned_keys : Setting → WaitList → Planned → List Key
-planned_keys s list call = call_keys s (call_of list call.ticket) ++ (if call.denied then [] else call.last ∷ [])
+planned_keys s list call = call_keys s (call_with_ticket list call.ticket) ++ (if call.denied then [] else call.last ∷ [])
 
 -- a key is to be held exactly where some planned call has it
 abbrev pub IsUnion : Setting → WaitList → Planning → Type 0

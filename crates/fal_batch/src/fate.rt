@@ -4,9 +4,9 @@ ghost use Rattle.fal_batch.specs.Fate.{away_to, fate_at, fate_walked, fate_by, f
 ghost use Rattle.fal_batch.specs.Seen.{fate_seen, site_seen};
 
 use crate::keys::is_among;
-use crate::names::{goes_by_parent, is_blocked, last_key, last_name_of};
+use crate::names::{goes_by_parent, is_blocked, last_name_of};
 use fal_base::{Barred, CallRec, Dentry, Duplicate, Key, OutOfMemory, Path};
-use fal_dentry::{Replica, Walk};
+use fal_dentry::{Replica, Walk, last_key};
 use fal_locks::Locks;
 use fal_place::Table;
 use std::alloc::Global;

@@ -1,11 +1,10 @@
-ghost use Rattle.std.specs.Prelude.{◌≡◌, [], IfOk};
+ghost use Rattle.std.specs.Prelude.{◌≡◌, []};
 ghost use Rattle.std.specs.Option.{option_copied};
-ghost use Rattle.fal_dentry.specs.TreeWalk.{last_name, last_key as key_at};
+ghost use Rattle.fal_dentry.specs.TreeWalk.{last_name};
 ghost use Rattle.fal_batch.specs.Fate.{last_of, is_blocked as is_name_blocked, goes_by_parent as by_parent};
 
-use fal_base::{Barred, Dentry, Duplicate, Key, Name, OutOfMemory, Path, Rule};
+use fal_base::{Barred, Name, Path, Rule};
 use fal_place::Table;
-use std::alloc::Global;
 
 // The last name of a path, if it has one.
 pub(crate) fn last_name_of(path: &Path) -> Option<&Name>
@@ -42,19 +41,8 @@ pub(crate) fn goes_by_parent(table: &Table, last: Option<&Name>) -> bool
     }
 }
 
-// A copy of the last name of a path, or the root's name where it has none.
-#[tactic(auto, using(crate::proofs::LastName::last_is))]
-fn last_or_root(alloc: Global, path: &Path) -> Result<Name, OutOfMemory>
-    ensures { IfOk result (λ name. name ≡ last_name path.now) }
-{
-    match last_name_of(path) {
-        None => Ok(Name::root(alloc)),
-        Some(name) => name.copy(),
-    }
-}
-
 // The last name of a path, or this name of the root where it has none. Takes no memory.
-#[tactic(auto, using(crate::proofs::LastName::last_is))]
+#[tactic(auto, using(fal_dentry::proofs::LastName::last_is))]
 pub(crate) fn last_or<'a>(path: &'a Path, root: &'a Name) -> &'a Name
     requires { root.now ≡ [] }
     ensures { result.now ≡ last_name path.now }
@@ -63,21 +51,4 @@ pub(crate) fn last_or<'a>(path: &'a Path, root: &'a Name) -> &'a Name
         None => root,
         Some(name) => name,
     }
-}
-
-// The key of the path's last name under its directory, or the root's key where there is no directory.
-pub(crate) fn last_key(
-    alloc: Global,
-    parent: &Option<Dentry>,
-    path: &Path,
-) -> Result<Key, OutOfMemory>
-    ensures { IfOk result (λ key. key ≡ key_at parent.now (last_name path.now)) }
-{
-    let Some(dir) = parent else {
-        return Ok(Key::root(alloc));
-    };
-    Ok(Key {
-        parent: dir.ino,
-        name: last_or_root(alloc, path)?,
-    })
 }

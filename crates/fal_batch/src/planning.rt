@@ -2,7 +2,7 @@ ghost use Rattle.std.specs.Prelude.{◌≡◌, ◌==◌, not, length, OnOk, IfOk
 ghost use Rattle.fal_locks.specs.Locks.{first_shut};
 ghost use Rattle.fal_wait.specs.Waiting.{IsNumbered};
 ghost use Rattle.fal_batch.specs.Keys.{are_distinct};
-ghost use Rattle.fal_batch.specs.Plan.{plan_one, plan_at, plan_of, free_call, IsUnion, IsEmptyWhereNoneJoins, IsIdleWhereAllAreSkipped, IsShared};
+ghost use Rattle.fal_batch.specs.Plan.{plan_one, plan_if, plan_of, free_call, IsUnion, IsEmptyWhereNoneJoins, IsIdleWhereAllAreSkipped, IsShared};
 ghost use Rattle.fal_batch.specs.Seen.{plan_seen, setting_of, site_seen};
 
 use crate::add::add;
@@ -23,7 +23,7 @@ fn add_ticket(
     waiting: &Waiting,
     ticket: u64,
 ) -> Result<(), OutOfMemory>
-    ensures { OnOk result (plan_seen plan.new ≡ plan_at (site_seen site.now) (plan_seen plan.old) (free_call waiting.now.list ticket)) }
+    ensures { OnOk result (plan_seen plan.new ≡ plan_if (site_seen site.now) (plan_seen plan.old) (free_call waiting.now.list ticket)) }
 {
     match waiting.call(ticket) {
         None => Ok(()),

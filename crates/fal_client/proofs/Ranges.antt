@@ -1,25 +1,24 @@
 -- What an event may be asked for by its row.
-use Rattle.std.proofs.Common.{◌≡◌, ℕ, Bool, true, cond, List, ◌∷◌, Option, Some, None, refl, sym, ap, ◌∙◌, subst, arith}
+use Rattle.std.proofs.Common.{◌≡◌, ℕ, Bool, true, cond, List, Option, Some, None, refl, ap, ◌∙◌, subst}
 use Rattle.std.specs.Prelude.{slice_get, is_none}
 use Rattle.std.specs.List.{list_all}
 use Rattle.fal_base.specs.declared.call.Call.{Call}
 use Rattle.fal_base.specs.declared.event.Envelope.{Envelope}
-use Rattle.fal_base.specs.declared.path.PathFault.{PathFault}
 use Rattle.fal_base.specs.declared.rule.RuleChange.{RuleChange}
 use Rattle.fal_place.specs.Placement.{is_within}
 use Rattle.fal_wire.specs.Messages.{reading}
 use Rattle.fal_client.specs.declared.current.Current.{Current}
 use Rattle.fal_client.specs.declared.event.ClientEvent.TheVariants.{Send, Get}
 use Rattle.fal_base.specs.OpPaths.{bad_path}
-use Rattle.fal_client.specs.State.{ClientState, opening_client, unchanged}
-use Rattle.fal_client.specs.Step.{IsInRange, CanMake, is_lane, read_step, retried, told_stale, started, skipped, sent_next, got, client_step}
+use Rattle.fal_client.specs.State.{ClientState, unchanged}
+use Rattle.fal_client.specs.Step.{IsInRange, CanMake, is_to_lane, read_step, retried, told_stale, started, sent_next, got, client_step}
 
 pub stale_in_range : (c : ClientState) (current : Current) (old new : ℕ) (changes : List RuleChange) → IsInRange (told_stale c current old new changes)
     → list_all (λ change. is_within c.table.nodes change.rule) changes ≡ true → IsInRange (retried c current old new changes)
 unfolding told_stale
 stale_in_range c current old new changes range all = subst (λ (b : Bool). IsInRange (cond b (retried c current old new changes) (unchanged c))) all range
 
-pub get_in_range : (c : ClientState) (e : Envelope) → CanMake c (Get e) → is_lane c.lane e.to ≡ true → IsInRange (read_step c e.point (reading e.bytes))
+pub get_in_range : (c : ClientState) (e : Envelope) → CanMake c (Get e) → is_to_lane c.lane e.to ≡ true → IsInRange (read_step c e.point (reading e.bytes))
 unfolding client_step got
 get_in_range c e can is = can (read_step c e.point (reading e.bytes)) (ap (got c e) is)
 
@@ -31,12 +30,3 @@ pub send_in_range : (c : ClientState) (call : Call) → CanMake c Send → is_no
 unfolding client_step sent_next
 send_in_range c call can idle next =
     can (started c call (bad_path call.op)) (ap (λ x. sent_next c x (slice_get c.left 0)) (no_current c.current idle) ∙ ap (sent_next c None) next)
-
--- a call with a bad path may be sent, since it makes no record
-pub bad_path_in_range : (lane nodes : ℕ) (call : Call) (calls : List Call) (fault : PathFault) → bad_path call.op ≡ Some fault → CanMake (opening_client lane nodes (call ∷ calls)) Send
-unfolding client_step sent_next started skipped
-bad_path_in_range lane nodes call calls fault bad m is =
-    let c : ClientState = opening_client lane nodes (call ∷ calls) in
-    let none : IsInRange (started c call (Some fault)) = record { records = λ k d lt. absurd (omega arith); calls = omega arith; attempts = omega arith } in
-    let same : started c call (bad_path call.op) ≡ m = cc in
-    subst IsInRange same (subst (λ b. IsInRange (started c call b)) (sym bad) none)

@@ -8,7 +8,7 @@ use Rattle.std.specs.declared.cmp.Ordering.TheVariants.{Less, Equal, Greater}
 use Rattle.std.specs.List.Sorted.{IsPermutation, IsSorted}
 use Rattle.std.proofs.lemmas.List.Sorted.{sum_by-IsPermutation, sorted_far, ranks_by}
 use Rattle.std.proofs.lemmas.List.Sums.{sum_by-cons}
-use Rattle.fal_client.specs.Names.{is_before, with_item, sorted_by, sorted_names}
+use Rattle.fal_client.specs.Names.{is_before, with_sorted, sorted_by, sorted_names}
 
 -- a strict order in which items that tie are one
 record Order {X : Type 0} (before : X → X → Bool) : Type 0 where
@@ -37,15 +37,15 @@ follows before o x z y zy zx =
     ] refl
 
 put_both : {X : Type 0} (before : X → X → Bool) → Order before → (a b : X) (zs : List X)
-    → with_item before a (with_item before b zs) ≡ with_item before b (with_item before a zs)
+    → with_sorted before a (with_sorted before b zs) ≡ with_sorted before b (with_sorted before a zs)
 put_both before o a b [] = pair_same before o a b []
 put_both {X} before o a b (z ∷ zs) =
-    elim (before z a) as (λ v. before z a ≡ v → with_item before a (cond (before z b) (z ∷ with_item before b zs) (b ∷ z ∷ zs)) ≡ with_item before b (cond v (z ∷ with_item before a zs) (a ∷ z ∷ zs))) [
-      | true ↦ λ za. elim (before z b) as (λ w. before z b ≡ w → with_item before a (cond w (z ∷ with_item before b zs) (b ∷ z ∷ zs)) ≡ cond w (z ∷ with_item before b (with_item before a zs)) (b ∷ z ∷ with_item before a zs)) [
+    elim (before z a) as (λ v. before z a ≡ v → with_sorted before a (cond (before z b) (z ∷ with_sorted before b zs) (b ∷ z ∷ zs)) ≡ with_sorted before b (cond v (z ∷ with_sorted before a zs) (a ∷ z ∷ zs))) [
+      | true ↦ λ za. elim (before z b) as (λ w. before z b ≡ w → with_sorted before a (cond w (z ∷ with_sorted before b zs) (b ∷ z ∷ zs)) ≡ cond w (z ∷ with_sorted before b (with_sorted before a zs)) (b ∷ z ∷ with_sorted before a zs)) [
         | true ↦ λ zb. rw za (ap (λ (l : List X). z ∷ l) (put_both before o a b zs))
         | false ↦ λ zb. rw (follows before o b z a za zb, za) refl
       ] refl
-      | false ↦ λ za. elim (before z b) as (λ w. before z b ≡ w → with_item before a (cond w (z ∷ with_item before b zs) (b ∷ z ∷ zs)) ≡ cond (before a b) (a ∷ cond w (z ∷ with_item before b zs) (b ∷ z ∷ zs)) (b ∷ a ∷ z ∷ zs)) [
+      | false ↦ λ za. elim (before z b) as (λ w. before z b ≡ w → with_sorted before a (cond w (z ∷ with_sorted before b zs) (b ∷ z ∷ zs)) ≡ cond (before a b) (a ∷ cond w (z ∷ with_sorted before b zs) (b ∷ z ∷ zs)) (b ∷ a ∷ z ∷ zs)) [
         | true ↦ λ zb. rw (za, follows before o a z b zb za) refl
         | false ↦ λ zb. rw za (pair_same before o a b (z ∷ zs))
       ] refl
@@ -53,10 +53,10 @@ put_both {X} before o a b (z ∷ zs) =
 
 -- an item in the middle may be put last
 sorted-middle : {X : Type 0} (before : X → X → Bool) → Order before → (xs : List X) (x : X) (ys : List X)
-    → sorted_by before (xs ++ x ∷ ys) ≡ with_item before x (sorted_by before (xs ++ ys))
+    → sorted_by before (xs ++ x ∷ ys) ≡ with_sorted before x (sorted_by before (xs ++ ys))
 sorted-middle before o [] x ys = refl
 sorted-middle {X} before o (y ∷ xs) x ys =
-    ap (with_item before y) (sorted-middle before o xs x ys) ∙ put_both before o y x (sorted_by before (xs ++ ys))
+    ap (with_sorted before y) (sorted-middle before o xs x ys) ∙ put_both before o y x (sorted_by before (xs ++ ys))
 
 -- whether two items tie, as a number
 same_count : {X : Type 0} → (X → X → Bool) → X → X → ℕ
@@ -123,21 +123,21 @@ same_sorted before o [] (y ∷ ys) h = absurd (omega (arith, h y, same_itself be
 same_sorted {X} before o (x ∷ xs) ys h =
     let s : Split x ys = split_of before o x ys (omega (arith, h x, same_itself before o x)) in
     ap (sorted_by before) s.is ∙ sorted-middle before o s.front x s.back
-    ∙ ap (with_item before x) (same_sorted before o xs (s.front ++ s.back) (λ q. omega (arith, h q, ap (count_in before q) s.is, count-middle before q x s.front s.back)))
+    ∙ ap (with_sorted before x) (same_sorted before o xs (s.front ++ s.back) (λ q. omega (arith, h q, ap (count_in before q) s.is, count-middle before q x s.front s.back)))
 
 -- a list that is in order stays
 
 abbrev Rises : {X : Type 0} → (X → X → Bool) → List X → Type 0
 Rises {X} before xs = (i j : ℕ) (d : X) → i ≤ j → j < length xs → before (get_or xs j d) (get_or xs i d) ≡ false
 
-first_stays : {X : Type 0} (before : X → X → Bool) (x : X) (xs : List X) → Rises before (x ∷ xs) → with_item before x xs ≡ x ∷ xs
+first_stays : {X : Type 0} (before : X → X → Bool) (x : X) (xs : List X) → Rises before (x ∷ xs) → with_sorted before x xs ≡ x ∷ xs
 first_stays before x [] h = refl
 first_stays before x (y ∷ ys) h = let e : before y x ≡ false = h 0 1 x (omega arith) (omega arith) in rw e refl
 
 sorted-rises : {X : Type 0} (before : X → X → Bool) (xs : List X) → Rises before xs → sorted_by before xs ≡ xs
 sorted-rises before [] h = refl
 sorted-rises before (x ∷ xs) h =
-    ap (with_item before x) (sorted-rises before xs (λ i j d le lt. h (suc i) (suc j) d (omega arith) (omega arith))) ∙ first_stays before x xs h
+    ap (with_sorted before x) (sorted-rises before xs (λ i j d le lt. h (suc i) (suc j) d (omega arith) (omega arith))) ∙ first_stays before x xs h
 
 -- ---- names
 

@@ -114,11 +114,11 @@ replied c point reply None = answered c point reply
 replied c point reply (Some listing) = unchanged c
 
 -- no part of the listing is there
-abbrev pub emptied : ℕ → Listing → Listing
-emptied nodes listing = record listing { parts = no_parts nodes }
+abbrev pub restarted : ℕ → Listing → Listing
+restarted nodes listing = record listing { parts = no_parts nodes }
 
 abbrev pub next_try : ℕ → Current → Current
-next_try nodes current = record current { attempt = current.attempt + 1; listing = option_map (emptied nodes) current.listing }
+next_try nodes current = record current { attempt = current.attempt + 1; listing = option_map (restarted nodes) current.listing }
 
 -- a later table: the call is sent anew by it, or each node is asked again for its part
 unfoldable pub retried : ClientState → Current → ℕ → ℕ → List RuleChange → Work
@@ -177,16 +177,16 @@ abbrev pub is_about : ClientState → Current → CallId → Bool
 is_about c current id = (id.seq == c.seq) && (id.attempt == current.attempt)
 
 -- what a record about the current attempt changes, by its kind
-unfoldable pub told : ClientState → Current → ℕ → News → Work
-told c current point (news.Replied reply) = replied c point reply current.listing
-told c current point (news.Stale old new changes) = told_stale c current old new changes
-told c current point (news.Opened dir) = told_opened c current dir point current.listing
-told c current point (news.Part node names) = told_part c current node (part_of point names) current.listing
+unfoldable pub news_told : ClientState → Current → ℕ → News → Work
+news_told c current point (news.Replied reply) = replied c point reply current.listing
+news_told c current point (news.Stale old new changes) = told_stale c current old new changes
+news_told c current point (news.Opened dir) = told_opened c current dir point current.listing
+news_told c current point (news.Part node names) = told_part c current node (part_of point names) current.listing
 
 -- a record about another call or attempt changes nothing, nor does one of a kind that a client does not hear
 unfoldable pub heard_by : ClientState → Current → ℕ → Option (CallId × News) → Work
 heard_by c current point None = unchanged c
-heard_by c current point (Some x) = if is_about c current x.0 then told c current point x.1 else unchanged c
+heard_by c current point (Some x) = if is_about c current x.0 then news_told c current point x.1 else unchanged c
 
 -- with no current call nothing changes
 unfoldable pub heard : ClientState → ℕ → Option (CallId × News) → Option Current → Work
@@ -200,10 +200,10 @@ read_step c point (Err fault) = unchanged c
 
 -- ---- both events
 
-unfoldable pub is_lane : ℕ → Actor → Bool
-is_lane lane (Client l) = l == lane
-is_lane lane (Node n) = false
-is_lane lane Coord = false
+unfoldable pub is_to_lane : ℕ → Actor → Bool
+is_to_lane lane (Client l) = l == lane
+is_to_lane lane (Node n) = false
+is_to_lane lane Coord = false
 
 -- what came to this lane
 unfoldable pub got : ClientState → Envelope → Bool → Option Work
@@ -213,7 +213,7 @@ got c e false = None
 -- the step of an event; none where the event is not enabled
 unfoldable pub client_step : ClientState → ClientEvent → Option Work
 client_step c Send = sent_next c c.current (slice_get c.left 0)
-client_step c (Get e) = got c e (is_lane c.lane e.to)
+client_step c (Get e) = got c e (is_to_lane c.lane e.to)
 
 -- ---- what may be asked of a client
 

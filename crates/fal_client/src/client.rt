@@ -4,7 +4,7 @@ ghost use Rattle.fal_base.specs.declared.refuse.Refuse.TheVariants as Refuse;
 ghost use Rattle.fal_client.specs.declared.event.ClientEvent.TheVariants as ClientEvent;
 ghost use Rattle.fal_client.specs.declared.patch.Patch.TheVariants as Patch;
 ghost use Rattle.fal_client.specs.State.{opening_client};
-ghost use Rattle.fal_client.specs.Step.{IsInRange, CanMake, is_lane as is_lane_of, client_step, read_step};
+ghost use Rattle.fal_client.specs.Step.{IsInRange, CanMake, is_to_lane as is_lane_of, client_step, read_step};
 ghost use Rattle.fal_client.specs.Patch.{IsStep, IsStepIf, IsStepFor, patched};
 ghost use Rattle.fal_wire.specs.Messages.{reading};
 
@@ -46,7 +46,7 @@ impl Model for Client {
 }
 
 // Whether this is the client of the lane.
-#[tactic(auto, unfolding(crate::specs::Step::is_lane))]
+#[tactic(auto, unfolding(crate::specs::Step::is_to_lane))]
 fn is_lane(lane: u8, to: Actor) -> bool
     ensures { result ≡ is_lane_of lane to }
 {

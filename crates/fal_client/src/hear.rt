@@ -1,7 +1,7 @@
 //! Hearing what came, by its kind.
 
 ghost use Rattle.std.specs.Prelude.{◌≡◌, Some, IfOk};
-ghost use Rattle.fal_client.specs.Step.{IsInRange, answered, replied, retried, told_stale, opened, told_opened, kept, listed, told_part, is_about as is_about_of, dir_of as dir_of_listing, told, heard_by, heard};
+ghost use Rattle.fal_client.specs.Step.{IsInRange, answered, replied, retried, told_stale, opened, told_opened, kept, listed, told_part, is_about as is_about_of, dir_of as dir_of_listing, news_told, heard_by, heard};
 ghost use Rattle.fal_client.specs.State.{unchanged};
 ghost use Rattle.fal_place.specs.Placement.{AllWithin};
 ghost use Rattle.fal_client.specs.Patch.{IsStep};
@@ -259,11 +259,11 @@ fn is_about(client: &Client, current: &Current, id: CallId) -> bool
 }
 
 // What a record about the current attempt changes.
-#[tactic(auto, unfolding(crate::specs::Step::told))]
+#[tactic(auto, unfolding(crate::specs::Step::news_told))]
 fn tell(client: &Client, current: &Current, point: u64, news: News) -> Result<Prepared, OutOfMemory>
     requires current { client.now.current ≡ Some current.now }
-    requires range { IsInRange (told client.now current.now point news) }
-    ensures { IfOk result (λ p. IsStep client.now (told client.now current.now point news) p) }
+    requires range { IsInRange (news_told client.now current.now point news) }
+    ensures { IfOk result (λ p. IsStep client.now (news_told client.now current.now point news) p) }
 {
     match news {
         News::Replied { reply } => {

@@ -1,2 +1,5 @@
+pub mod Decided
+pub mod Judged
 pub mod State
 pub mod Step
+pub mod Patch

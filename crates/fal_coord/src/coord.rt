@@ -2,7 +2,8 @@ ghost use Rattle.std.specs.Prelude.{◌≡◌, ◌≤◌, ◌↔◌, IfOk, IsErr
 ghost use Rattle.fal_base.specs.declared.refuse.Refuse.TheVariants as Refuse;
 ghost use Rattle.fal_coord.specs.declared.event.CoordEvent.TheVariants as CoordEvent;
 ghost use Rattle.fal_coord.specs.State.{opening_coord, is_quiet};
-ghost use Rattle.fal_coord.specs.Step.{coord_step, IsStepFor, patched};
+ghost use Rattle.fal_coord.specs.Step.{coord_step};
+ghost use Rattle.fal_coord.specs.Patch.{IsStepFor, patched};
 
 use crate::event::CoordEvent;
 use crate::patch::{Patch, Prepared};
@@ -53,6 +54,7 @@ impl Coord {
     }
 
     /// Lays a prepared step on. Takes no memory and can't fail. After the coordinator's own last `ready` it is that event's step.
+    #[tactic(auto, unfolding(crate::specs::Patch::patched))]
     pub fn apply(&mut self, prepared: Prepared)
         ensures { self.new ≡ patched self.old prepared.patch }
     {

@@ -1,5 +1,8 @@
 mod Dropped
+pub mod LastKey
+pub mod LastName
 mod OnTree
 mod Steps
-mod TreeSteps
+pub mod TreeSteps
+pub mod UnderWay
 pub mod WalkKeys

@@ -6,8 +6,10 @@ use Rattle.fal_base.specs.declared.key.Key.{Key}
 use Rattle.fal_base.specs.declared.reply.Errno.TheVariants.{Eacces, Enotdir}
 use Rattle.fal_base.specs.Tree.{Tree, row_at, key_of}
 use Rattle.fal_base.specs.Walk.{Walked, Stop, Ready, is_dir, grants, into, passing, walk_from}
+use Rattle.fal_dentry.specs.TreeWalk.{way_from}
 
-passes_in : (ino : ℕ) (row : Option Inode) (go : Inode → Walked) → into row (λ inner. passing ino (go inner)) ≡ passing ino (into row go)
+-- a directory is passed before the next row is looked at, or after
+pub passes_in : (ino : ℕ) (row : Option Inode) (go : Inode → Walked) → into row (λ inner. passing ino (go inner)) ≡ passing ino (into row go)
 passes_in ino None go = refl
 passes_in ino (Some inode) go = elim (is_dir inode) as (λ b. (if b then passing ino (go inode) else Stop Enotdir) ≡ passing ino (if b then go inode else Stop Enotdir)) [ true ↦ refl | false ↦ refl ]
 
@@ -27,3 +29,7 @@ module _ (tree : Tree) (cred : Cred) where
   passed dir name next names is =
       ap (λ b. if b then into (row_at tree (key_of dir.ino name)) (λ inner. passing dir.ino (walk_from tree cred inner (next ∷ names))) else Stop Eacces) is
       ∙ passes_in dir.ino (row_at tree (key_of dir.ino name)) (λ inner. walk_from tree cred inner (next ∷ names))
+
+  -- the rest of the way, through a directory
+  abbrev pub on_way : List ℕ → List (List ℕ) → Inode → List Key
+  on_way name names dir = if grants cred 1 dir then way_from tree cred (key_of dir.ino name) names else []

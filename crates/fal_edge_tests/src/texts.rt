@@ -1,6 +1,6 @@
-/// Calls, and the text of their run over the plain tree.
-pub fn runs() -> [(&'static [u8], &'static [u8]); 5] {
-    [no_call(), two_looks(), checks(), moves(), verbs()]
+/// Calls, and the text of their run over the plain tree. What the program's own operations write stands among its own tests.
+pub fn runs() -> [(&'static [u8], &'static [u8]); 3] {
+    [no_call(), moves(), verbs()]
 }
 
 // No call.
@@ -18,89 +18,6 @@ failed 0
 commits 0
 directories 1
 files 0
-",
-    )
-}
-
-// A directory is made and looked at.
-fn two_looks() -> (&'static [u8], &'static [u8]) {
-    (
-        b"0|0|mkdir|/a|755
-0|0|stat|/a
-0|0|stat|/
-",
-        b"falcon-transcript 1
-nodes 1
-lanes 1
-sent 1.1 0:0 mkdir /a 755
-commit 1.1 256
-answered 1.1 0 ok
-sent 1.2 0:0 stat /a
-answered 1.2 1 stat 256 dir 755 0:0 0
-sent 1.3 0:0 stat /
-answered 1.3 1 stat 1 dir 755 0:0 0
-tree 2
-0 / 1 dir 755 0:0 0
-1 a 256 dir 755 0:0 0
-calls 3
-ok 3
-failed 0
-commits 1
-directories 2
-files 0
-",
-    )
-}
-
-// Checks come in their order.
-fn checks() -> (&'static [u8], &'static [u8]) {
-    (
-        b"0|0|mkdir|/d|700
-0|0|create|/f|644
-1000|100|stat|/d/none/x
-1000|100|stat|/none/x
-1000|100|stat|/f/x
-1000|100|stat|f
-1000|100|mkdir|/d|755
-1000|100|mkdir|/e|755
-1000|100|unlink|/d
-0|0|unlink|/d
-",
-        b"falcon-transcript 1
-nodes 1
-lanes 1
-sent 1.1 0:0 mkdir /d 700
-commit 1.1 256
-answered 1.1 0 ok
-sent 1.2 0:0 create /f 644
-commit 1.2 512
-answered 1.2 1 ok
-sent 1.3 1000:100 stat /d/none/x
-answered 1.3 2 EACCES
-sent 1.4 1000:100 stat /none/x
-answered 1.4 2 ENOENT
-sent 1.5 1000:100 stat /f/x
-answered 1.5 2 ENOTDIR
-sent 1.6 1000:100 stat f
-answered 1.6 2 EINVAL
-sent 1.7 1000:100 mkdir /d 755
-answered 1.7 2 EEXIST
-sent 1.8 1000:100 mkdir /e 755
-answered 1.8 2 EACCES
-sent 1.9 1000:100 unlink /d
-answered 1.9 2 EACCES
-sent 1.10 0:0 unlink /d
-answered 1.10 2 EPERM
-tree 3
-0 / 1 dir 755 0:0 0
-1 d 256 dir 700 0:0 0
-1 f 512 file 644 0:0 0
-calls 10
-ok 2
-failed 8
-commits 2
-directories 2
-files 1
 ",
     )
 }

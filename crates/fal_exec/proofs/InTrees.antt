@@ -14,16 +14,17 @@ use Rattle.fal_base.specs.declared.reply.Errno.TheVariants.{Eacces, Eexist, Eisd
 use Rattle.fal_base.specs.declared.reply.Reply.{Reply}
 use Rattle.fal_base.specs.declared.reply.Reply.TheVariants.{Fine, Fail, Stat, Names}
 use Rattle.fal_base.specs.Tree.{Tree, row_at, with_row, without_row, names_under, root_key}
-use Rattle.fal_base.specs.Walk.{Stop, Ready, walk, is_dir, dentry_of, grants}
+use Rattle.fal_base.specs.Walk.{Stop, Ready, walk, is_dir, dentry_of, grants, kept_grants}
 use Rattle.fal_base.specs.Answer as tells
 use Rattle.fal_base.specs.Answer.{answer, walked, reached}
-use Rattle.fal_base.specs.Change.{makes, change, is_fine, changes, new_row, last_key, update}
+use Rattle.fal_base.specs.Change.{makes, change, is_fine, changes, new_row, last_key_of, update}
 use Rattle.fal_exec.specs.declared.outcome.Change.TheVariants.{Put, Remove}
 use Rattle.fal_exec.specs.declared.outcome.ExecOut.{ExecOut}
 use Rattle.fal_exec.specs.declared.outcome.ExecOut.TheVariants.{Finish, Opened, PassOn}
-use Rattle.fal_exec.specs.Outcome.{outcome_of, checked, found, kept, changed, parent_grants, make_outcome, access_outcome, chmod_outcome, chown_outcome, truncate_outcome, unlink_outcome, list_outcome}
+use Rattle.fal_exec.specs.Outcome.{outcome_of, unless_refused, where_found, without_change, changed, make_outcome, access_outcome, chmod_outcome, chown_outcome, truncate_outcome, unlink_outcome, list_outcome}
 use Rattle.fal_exec.specs.RowCall.{row_names}
-use Rattle.fal_exec.specs.Executed.{IsExecuted, IsExecutedInTrees, passes_on, is_listing, is_list, is_of_owner, is_directory}
+use Rattle.fal_exec.specs.Executed.{IsExecuted, IsExecutedInTrees, passes_on, is_of_owner, is_directory}
+use Rattle.fal_base.specs.Transcript.{is_list, is_names}
 
 and_none : (b : Bool) → (b && false) ≡ false
 and_none true = refl
@@ -31,36 +32,36 @@ and_none false = refl
 
 module _ (tree : Tree) (cred : Cred) (call : Op) (fresh : ℕ) (key : Key) where
   -- a call that fails changes nothing
-  fails : (errno : Errno) → answer tree cred call ≡ Fail errno → IsExecuted tree cred call fresh key (kept (Fail errno))
+  fails : (errno : Errno) → answer tree cred call ≡ Fail errno → IsExecuted tree cred call fresh key (without_change (Fail errno))
   fails errno is = record {
     answered = sym is;
     part = ap (λ reply. changes tree cred call && is_fine reply) is ∙ and_none (changes tree cred call);
-    not_opened = ap (λ reply. is_list call && is_listing reply) is ∙ and_none (is_list call);
+    not_opened = ap (λ reply. is_list call && is_names reply) is ∙ and_none (is_list call);
     not_passed_on = ap (λ reply. is_of_owner call && is_fine reply && is_directory (row_at tree key)) is ∙ ap (λ b. b && is_directory (row_at tree key)) (and_none (is_of_owner call));
   }
 
   -- the first check that fails is the answer, and the rest is as after them all
   judges : (checks : List (Bool × Errno)) (reply : Reply) (out : ExecOut) → answer tree cred call ≡ tells.checked checks reply
-      → (answer tree cred call ≡ reply → IsExecuted tree cred call fresh key out) → IsExecuted tree cred call fresh key (checked checks out)
+      → (answer tree cred call ≡ reply → IsExecuted tree cred call fresh key out) → IsExecuted tree cred call fresh key (unless_refused checks out)
   judges [] reply out is after = after is
   judges (check ∷ checks) reply out is after =
-      elim check.0 as (λ b. answer tree cred call ≡ cond b (Fail check.1) (tells.checked checks reply) → IsExecuted tree cred call fresh key (cond b (kept (Fail check.1)) (checked checks out))) [
+      elim check.0 as (λ b. answer tree cred call ≡ cond b (Fail check.1) (tells.checked checks reply) → IsExecuted tree cred call fresh key (cond b (without_change (Fail check.1)) (unless_refused checks out))) [
         | true ↦ λ failed. fails check.1 failed
         | false ↦ λ passed. judges checks reply out passed after
       ] is
 
   -- no row is ENOENT
   finds : (row : Option Inode) (go : Inode → Reply) (out : Inode → ExecOut) → answer tree cred call ≡ tells.found row go
-      → ((inode : Inode) → row ≡ Some inode → answer tree cred call ≡ go inode → IsExecuted tree cred call fresh key (out inode)) → IsExecuted tree cred call fresh key (found row out)
+      → ((inode : Inode) → row ≡ Some inode → answer tree cred call ≡ go inode → IsExecuted tree cred call fresh key (out inode)) → IsExecuted tree cred call fresh key (where_found row out)
   finds None go out is after = fails Enoent is
   finds (Some inode) go out is after = after inode refl is
 
   -- a call that changes nothing, and is answered otherwise than with names
-  stays : (reply : Reply) → is_listing reply ≡ false → is_of_owner call ≡ false → changes tree cred call ≡ false → answer tree cred call ≡ reply → IsExecuted tree cred call fresh key (kept reply)
+  stays : (reply : Reply) → is_names reply ≡ false → is_of_owner call ≡ false → changes tree cred call ≡ false → answer tree cred call ≡ reply → IsExecuted tree cred call fresh key (without_change reply)
   stays reply unlisted not_owner changeless is = record {
     answered = sym is;
     part = ap (λ b. b && is_fine (answer tree cred call)) changeless;
-    not_opened = ap (λ r. is_list call && is_listing r) is ∙ ap (λ b. is_list call && b) unlisted ∙ and_none (is_list call);
+    not_opened = ap (λ r. is_list call && is_names r) is ∙ ap (λ b. is_list call && b) unlisted ∙ and_none (is_list call);
     not_passed_on = ap (λ b. b && is_fine (answer tree cred call) && is_directory (row_at tree key)) not_owner;
   }
 
@@ -73,7 +74,7 @@ module _ (tree : Tree) (cred : Cred) (call : Op) (fresh : ℕ) (key : Key) where
   puts now changing is after here = record {
     answered = sym is;
     part = (makes_one changing is, after);
-    not_opened = ap (λ reply. is_list call && is_listing reply) is ∙ and_none (is_list call);
+    not_opened = ap (λ reply. is_list call && is_names reply) is ∙ and_none (is_list call);
     not_passed_on = here;
   }
 
@@ -82,7 +83,7 @@ module _ (tree : Tree) (cred : Cred) (call : Op) (fresh : ℕ) (key : Key) where
   removes changing is after here = record {
     answered = sym is;
     part = (makes_one changing is, after);
-    not_opened = ap (λ reply. is_list call && is_listing reply) is ∙ and_none (is_list call);
+    not_opened = ap (λ reply. is_list call && is_names reply) is ∙ and_none (is_list call);
     not_passed_on = here;
   }
 
@@ -99,7 +100,7 @@ module _ (tree : Tree) (cred : Cred) (call : Op) (fresh : ℕ) (key : Key) where
       ] refl
 
 -- the directory and its dentry grant the same
-same_grants : (cred : Cred) (above : Option Inode) → tells.parent_grants cred 2 above ≡ parent_grants cred 2 (option_map dentry_of above)
+same_grants : (cred : Cred) (above : Option Inode) → tells.parent_grants cred 2 above ≡ kept_grants cred 2 (option_map dentry_of above)
 same_grants cred None = refl
 same_grants cred (Some dir) = refl
 
@@ -115,20 +116,20 @@ module _ (tree : Tree) (cred : Cred) (names : List (List ℕ)) (above : Option I
   after_walk : (go : Option Inode → Key → Option Inode → Reply) → reached tree cred (Good names) go ≡ go above key (row_at tree key)
   after_walk go = ap (λ w. walked w (λ parent passed last. go parent last (row_at tree last))) ready
 
-  last_is : last_key tree cred (Good names) ≡ key
+  last_is : last_key_of tree cred (Good names) ≡ key
   last_is = ap (λ w. elim w as (λ _. Key) [ Stop errno ↦ root_key | Ready parent passed last ↦ last ]) ready
 
   -- the row under the last key, changed
-  updated : (f : Inode → Inode) (inode : Inode) → row_at tree key ≡ Some inode → update tree (last_key tree cred (Good names)) f ≡ with_row tree key (f inode)
+  updated : (f : Inode → Inode) (inode : Inode) → row_at tree key ≡ Some inode → update tree (last_key_of tree cred (Good names)) f ≡ with_row tree key (f inode)
   updated f inode row = ap (λ k. update tree k f) last_is ∙ ap (λ r. elim r as (λ _. Tree) [ None ↦ tree | Some i ↦ with_row tree key (f i) ]) row
 
   abbrev IsCase : Op → Type 0
   IsCase call = IsExecuted tree cred call fresh key (outcome_of (row_at tree key) (option_map dentry_of above) cred call fresh)
 
   make_case : (call : Op) (made : Inode) → answer tree cred call ≡ tells.make_answer tree cred (Good names) → changes tree cred call ≡ true → is_of_owner call ≡ false
-      → change tree cred call fresh ≡ with_row tree (last_key tree cred (Good names)) made → IsExecuted tree cred call fresh key (make_outcome (row_at tree key) (option_map dentry_of above) cred made)
+      → change tree cred call fresh ≡ with_row tree (last_key_of tree cred (Good names)) made → IsExecuted tree cred call fresh key (make_outcome (row_at tree key) (option_map dentry_of above) cred made)
   make_case call made told changing not_owner after =
-      let grants_it : Bool = parent_grants cred 2 (option_map dentry_of above) in
+      let grants_it : Bool = kept_grants cred 2 (option_map dentry_of above) in
       judges tree cred call fresh key ((is_some (row_at tree key), Eexist) ∷ (not grants_it, Eacces) ∷ []) Fine (Finish Fine (Put made))
       (told ∙ after_walk (λ parent last row. tells.checked ((is_some row, Eexist) ∷ (not (tells.parent_grants cred 2 parent), Eacces) ∷ []) Fine)
       ∙ ap (λ b. tells.checked ((is_some (row_at tree key), Eexist) ∷ (not b, Eacces) ∷ []) Fine) (same_grants cred above))
@@ -136,18 +137,18 @@ module _ (tree : Tree) (cred : Cred) (names : List (List ℕ)) (above : Option I
 
   -- a call on the inode that the path names
   inode_case : (call : Op) (go : Inode → Reply) (out : Inode → ExecOut) → answer tree cred call ≡ tells.inode_answer tree cred (Good names) go
-      → ((inode : Inode) → row_at tree key ≡ Some inode → answer tree cred call ≡ go inode → IsExecuted tree cred call fresh key (out inode)) → IsExecuted tree cred call fresh key (found (row_at tree key) out)
+      → ((inode : Inode) → row_at tree key ≡ Some inode → answer tree cred call ≡ go inode → IsExecuted tree cred call fresh key (out inode)) → IsExecuted tree cred call fresh key (where_found (row_at tree key) out)
   inode_case call go out told after = finds tree cred call fresh key (row_at tree key) go out (told ∙ after_walk (λ parent last row. tells.found row go)) after
 
   stat_case : IsCase (op.Stat (Good names))
-  stat_case = inode_case (op.Stat (Good names)) (λ inode. Stat inode) (λ inode. kept (Stat inode)) refl (λ inode row is. stays tree cred _ fresh key (Stat inode) refl refl refl is)
+  stat_case = inode_case (op.Stat (Good names)) (λ inode. Stat inode) (λ inode. without_change (Stat inode)) refl (λ inode row is. stays tree cred _ fresh key (Stat inode) refl refl refl is)
 
   access_case : (want : ℕ) → IsCase (op.Access (Good names) want)
   access_case want =
       let call : Op = op.Access (Good names) want in
       let checks : Inode → List (Bool × Errno) = λ inode. (not (grants cred want inode), Eacces) ∷ [] in
       inode_case call (λ inode. tells.checked (checks inode) Fine) (access_outcome cred want) refl (λ inode row is.
-      judges tree cred call fresh key (checks inode) Fine (kept Fine) is (stays tree cred call fresh key Fine refl refl refl))
+      judges tree cred call fresh key (checks inode) Fine (without_change Fine) is (stays tree cred call fresh key Fine refl refl refl))
 
   chmod_case : (mode : ℕ) → IsCase (op.Chmod (Good names) mode)
   chmod_case mode =
@@ -179,7 +180,7 @@ module _ (tree : Tree) (cred : Cred) (names : List (List ℕ)) (above : Option I
       let checks : Bool → Inode → List (Bool × Errno) = λ granted inode. (not granted, Eacces) ∷ (is_dir inode, Eperm) ∷ [] in
       finds tree cred call fresh key (row_at tree key) (λ inode. tells.checked (checks (tells.parent_grants cred 2 above) inode) Fine) (unlink_outcome (option_map dentry_of above) cred)
       (after_walk (λ parent last row. tells.found row (λ inode. tells.checked (checks (tells.parent_grants cred 2 parent) inode) Fine))) (λ inode row is.
-      judges tree cred call fresh key (checks (parent_grants cred 2 (option_map dentry_of above)) inode) Fine (Finish Fine Remove)
+      judges tree cred call fresh key (checks (kept_grants cred 2 (option_map dentry_of above)) inode) Fine (Finish Fine Remove)
       (is ∙ ap (λ b. tells.checked (checks b inode) Fine) (same_grants cred above)) (λ fine.
       removes tree cred call fresh key refl fine (ap (λ k. without_row tree k) last_is) refl))
 
@@ -190,9 +191,9 @@ module _ (tree : Tree) (cred : Cred) (names : List (List ℕ)) (above : Option I
       let listed : Inode → Reply = λ inode. Names (names_under tree inode.ino) in
       inode_case call (λ inode. tells.checked (checks inode) (listed inode)) (list_outcome cred) refl (λ inode row is.
       elim (is_dir inode) as (λ b. is_dir inode ≡ b → answer tree cred call ≡ tells.checked ((not b, Enotdir) ∷ (not (grants cred 4 inode), Eacces) ∷ []) (listed inode)
-      → IsExecuted tree cred call fresh key (checked ((not b, Enotdir) ∷ (not (grants cred 4 inode), Eacces) ∷ []) (Opened inode.ino))) [
+      → IsExecuted tree cred call fresh key (unless_refused ((not b, Enotdir) ∷ (not (grants cred 4 inode), Eacces) ∷ []) (Opened inode.ino))) [
         | true ↦ λ kind told. judges tree cred call fresh key ((not (grants cred 4 inode), Eacces) ∷ []) (listed inode) (Opened inode.ino) told (λ names. record {
-          opened = ap is_listing names;
+          opened = ap is_names names;
           answered = names;
           directory = subst (λ r. IsSomeAnd r (λ dir. (dir.kind ≡ Dir) × (dir.ino ≡ inode.ino))) (sym row) (is_directory_of inode kind, refl);
         })

@@ -9,23 +9,17 @@ use Rattle.fal_base.specs.declared.key.Key.{Key}
 use Rattle.fal_base.specs.declared.op.Op.{Op}
 use Rattle.fal_base.specs.declared.op.Op.TheVariants as op
 use Rattle.fal_base.specs.declared.reply.Reply.{Reply}
-use Rattle.fal_base.specs.declared.reply.Reply.TheVariants.{Fine, Fail, Stat, Names}
+use Rattle.fal_base.specs.declared.reply.Reply.TheVariants.{Fine, Names}
 use Rattle.fal_base.specs.Tree.{Tree, row_at, with_row, without_row, names_under}
 use Rattle.fal_base.specs.Walk.{Ready, walk, is_dir, dentry_of}
 use Rattle.fal_base.specs.Answer.{answer}
 use Rattle.fal_base.specs.Change.{makes, change, is_fine}
+use Rattle.fal_base.specs.Transcript.{is_list, is_names}
 use Rattle.fal_exec.specs.RowCall.{row_names}
 use Rattle.fal_exec.specs.declared.outcome.Change.{Change}
 use Rattle.fal_exec.specs.declared.outcome.Change.TheVariants.{Keep, Put, Remove}
 use Rattle.fal_exec.specs.declared.outcome.ExecOut.{ExecOut}
 use Rattle.fal_exec.specs.declared.outcome.ExecOut.TheVariants.{Finish, Opened, PassOn}
-
--- a list that is answered with names
-abbrev pub is_listing : Reply → Bool
-is_listing Fine = false
-is_listing (Fail errno) = false
-is_listing (Stat inode) = false
-is_listing (Names names) = true
 
 -- a chmod or chown
 abbrev pub is_of_owner : Op → Bool
@@ -37,13 +31,9 @@ abbrev pub is_directory : Option Inode → Bool
 is_directory None = false
 is_directory (Some inode) = is_dir inode
 
-abbrev pub is_list : Op → Bool
-is_list (op.List path) = true
-is_list other = false
-
 -- a list that is answered with names
 abbrev pub opens : Tree → Cred → Op → Bool
-opens tree cred op = is_list op && is_listing (answer tree cred op)
+opens tree cred op = is_list op && is_names (answer tree cred op)
 
 -- a chmod or chown of a directory that is answered ok
 abbrev pub passes_on : Tree → Cred → Op → Key → Bool

@@ -1,7 +1,8 @@
 ghost use Rattle.std.specs.Prelude.{◌≡◌, IsSome};
 ghost use Rattle.std.specs.Option.{option_copied};
 ghost use Rattle.fal_base.specs.Change.{new_row as new_row_of};
-ghost use Rattle.fal_exec.specs.Outcome.{kept as kept_of, parent_grants as parent_grants_of, make_outcome, access_outcome, changed, chmod_outcome, chown_outcome, truncate_outcome, unlink_outcome, list_outcome, outcome_of};
+ghost use Rattle.fal_base.specs.Walk.{kept_grants as parent_grants_of};
+ghost use Rattle.fal_exec.specs.Outcome.{without_change as kept_of, make_outcome, access_outcome, changed, chmod_outcome, chown_outcome, truncate_outcome, unlink_outcome, list_outcome, outcome_of};
 ghost use Rattle.fal_exec.specs.RowCall.{row_names};
 ghost use Rattle.fal_exec.specs.Executed.{IsExecutedInTrees};
 

@@ -18,9 +18,9 @@ pub struct Rows {
 }
 
 impl Model for Rows {
-    ghost use Rattle.fal_inode.specs.Seen.{Seen};
+    ghost use Rattle.fal_inode.specs.Seen.{SeenRows};
 
-    ghost Value = { Seen };
+    ghost Value = { SeenRows };
 
     ghost view = { λ r. record { rows = r.map.entries; spare = r.map.spare } };
 }

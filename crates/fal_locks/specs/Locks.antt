@@ -36,13 +36,13 @@ is_name_held table name = list_any (λ h. has_name h.keys name) table.holders
 abbrev pub is_any_held : LockTable → Bool
 is_any_held table = list_any (λ h. list_any (λ key. nat_lt 0 (length key.name)) h.keys) table.holders
 
-abbrev pub keys_of : Option Shut → List Key
-keys_of None = []
-keys_of (Some shut) = shut.keys
+abbrev pub shut_keys_of : Option Shut → List Key
+shut_keys_of None = []
+shut_keys_of (Some shut) = shut.keys
 
 -- the keys that are shut
 abbrev pub shut_keys : LockTable → List Key
-shut_keys table = keys_of table.shut
+shut_keys table = shut_keys_of table.shut
 
 abbrev pub is_shut : LockTable → Key → Bool
 is_shut table key = has_key (shut_keys table) key

@@ -1,6 +1,6 @@
 ghost use Rattle.std.specs.Prelude.{◌≡◌, ◌≤◌, ◌+◌, IfOk, IfErr, OnOk, OnErr, IsTrue, None, Some, false, length};
 ghost use Rattle.fal_locks.specs.Keys.{distinct_count as distinct_keys};
-ghost use Rattle.fal_locks.specs.Locks.{no_locks, has_holder, is_held, is_name_held, is_any_held, keys_of, shut_keys as keys_shut, shut_op as op_shut, first_shut, first_held as place_held, with_holder, without_holder, with_shut, without_shut, IsApart};
+ghost use Rattle.fal_locks.specs.Locks.{no_locks, has_holder, is_held, is_name_held, is_any_held, shut_keys_of, shut_keys as keys_shut, shut_op as op_shut, first_shut, first_held as place_held, with_holder, without_holder, with_shut, without_shut, IsApart};
 
 use crate::holder::{Holder, Shut};
 use crate::holders::{drop_holder, first_held, hold_child, hold_key, hold_name};
@@ -38,7 +38,7 @@ pub struct Busy {
 
 // The keys that are shut.
 fn shut_among(shut: &Option<Shut>) -> &[Key]
-    ensures { result.now ≡ keys_of shut.now }
+    ensures { result.now ≡ shut_keys_of shut.now }
 {
     match shut {
         None => &[],

@@ -1,5 +1,5 @@
 -- The change of an event that stays within the ranges takes no counter past its end.
-use Rattle.std.proofs.Common.{◌≡◌, ℕ, ◌+◌, ◌<◌, ◌≤◌, ◌^◌, cond, List, [], ◌∷◌, length, None, IsTrue, refl, ap, ◌∙◌, subst, arith}
+use Rattle.std.proofs.Common.{◌≡◌, ℕ, ◌+◌, ◌<◌, ◌≤◌, ◌^◌, cond, List, [], ◌∷◌, length, None, IsTrue, refl, ap, ◌∙◌, subst}
 use Rattle.fal_base.specs.declared.call.CallRec.{CallRec}
 use Rattle.fal_base.specs.declared.key.Key.{Key}
 use Rattle.fal_locks.specs.Locks.{first_shut}
@@ -51,7 +51,7 @@ can_change node work (patch.Admit call) same within can =
     (subst (λ k. k < 2 ^ 64) (ap (λ (n : NodeState). n.waiting.tickets) same ∙ tickets-admitted node call can.0) within.tickets, can.1)
 can_change node work (patch.Keep message) same within can = subst (λ (n : NodeState). n.items_numbered < 2 ^ 64) same within.items
 can_change node work (patch.Learn fetch key dentry) same within can = tt
-can_change node work (patch.Leave fetch tickets) same within can = tt
+can_change node work (patch.Dismiss fetch tickets) same within can = tt
 can_change node work (patch.Gather fetches tickets calls keys) same within can =
     let opened = ap (λ (n : NodeState). n.waiting.opened) same ∙ opened-gathered node fetches.items tickets.items calls keys.items in
     let batches = subst (λ (n : NodeState). n.batches_numbered < 2 ^ 64) same within.batches in

@@ -11,7 +11,7 @@ use Rattle.fal_node.specs.declared.patch.Prepared.{Prepared}
 use Rattle.fal_node.specs.State.{NodeState}
 use Rattle.fal_wire.specs.Letters.{output_of}
 use Rattle.fal_node.specs.Letters.{Work}
-use Rattle.fal_node.specs.Patch.{Seen, patched}
+use Rattle.fal_node.specs.Patch.{SeenNode, patched}
 use Rattle.fal_node.specs.Step.{IsWithin, StaysWithin, node_step}
 use Rattle.fal_node.specs.Ready.{CanDraft, CanPatch, HasRoom, DoesOf, IsStepOf, IsStepFor}
 use Rattle.fal_node.proofs.Counters.{can_change}
@@ -20,7 +20,7 @@ pub letters_fit : (node : NodeState) (work : Option Work) (draft : Draft) → Do
 letters_fit node None draft does within = absurd does
 letters_fit node (Some work) draft does within = subst (λ ls. All (λ (l : Letter). Fits l.message) ls) (sym does.sent) (within work refl).records
 
-step_made : (s : Seen) (work : Option Work) (draft : Draft) (prepared : Prepared) → DoesOf s.state work (Some draft) → ForSome work IsWithin → CanDraft s.state draft.patch → HasRoom s.room draft.patch
+step_made : (s : SeenNode) (work : Option Work) (draft : Draft) (prepared : Prepared) → DoesOf s.state work (Some draft) → ForSome work IsWithin → CanDraft s.state draft.patch → HasRoom s.room draft.patch
     → prepared.patch ≡ draft.patch → prepared.outputs.sent ≡ map output_of draft.letters.items → prepared.outputs.notes ≡ draft.notes.items → IsStepOf s work prepared
 step_made s None draft prepared does within can room patch sent notes = absurd does
 step_made s (Some work) draft prepared does within can room patch sent notes = record {
@@ -31,7 +31,7 @@ step_made s (Some work) draft prepared does within can room patch sent notes = r
 }
 
 -- where there is a draft, it becomes the step
-pub step_for : (s : Seen) (node : NodeState) (event : NodeEvent) (draft : Draft) (prepared : Prepared) → s.state ≡ node → DoesOf node (node_step node event) (Some draft) → StaysWithin node event
+pub step_for : (s : SeenNode) (node : NodeState) (event : NodeEvent) (draft : Draft) (prepared : Prepared) → s.state ≡ node → DoesOf node (node_step node event) (Some draft) → StaysWithin node event
     → CanDraft node draft.patch → HasRoom s.room draft.patch → prepared.patch ≡ draft.patch → prepared.outputs.sent ≡ map output_of draft.letters.items → prepared.outputs.notes ≡ draft.notes.items
     → IsStepFor s event prepared
 step_for s node event draft prepared same does within can room patch sent notes =

@@ -7,7 +7,7 @@ use Rattle.std.proofs.lemmas.List.Folds.{list_all-append}
 use Rattle.fal_base.specs.declared.call.CallRec.{CallRec}
 use Rattle.fal_base.specs.declared.key.Key.{Key}
 use Rattle.fal_wait.specs.declared.waiting_call.WaitingCall.{WaitingCall}
-use Rattle.fal_wait.specs.Waiting.{WaitList, call_of}
+use Rattle.fal_wait.specs.Waiting.{WaitList, call_with_ticket}
 use Rattle.fal_wire.specs.Messages.{Fits, FieldsFit, fetch_ask_body}
 use Rattle.fal_batch.specs.Plan.{is_idle}
 use Rattle.fal_batch.specs.declared.parts.Planned.{Planned}
@@ -44,11 +44,11 @@ pub ask_number : (n : NodeState) (number : ℕ) (key : Key) → Fits (ask_letter
 unfolding FieldsFit fetch_ask_body
 ask_number n number key h = h.fields.1.0
 
-pub batch_calls_push : (list : WaitList) (xs : List Planned) (x : Planned) → batch_calls list (xs ++ x ∷ []) ≡ batch_calls list xs ++ batch_call (call_of list x.ticket) x
-batch_calls_push list [] x = append-nil (batch_call (call_of list x.ticket) x)
+pub batch_calls_push : (list : WaitList) (xs : List Planned) (x : Planned) → batch_calls list (xs ++ x ∷ []) ≡ batch_calls list xs ++ batch_call (call_with_ticket list x.ticket) x
+batch_calls_push list [] x = append-nil (batch_call (call_with_ticket list x.ticket) x)
 batch_calls_push list (y ∷ ys) x =
-    let first : List BatchCall = batch_call (call_of list y.ticket) y in
-    ap (λ zs. first ++ zs) (batch_calls_push list ys x) ∙ sym (append_assoc first (batch_calls list ys) (batch_call (call_of list x.ticket) x))
+    let first : List BatchCall = batch_call (call_with_ticket list y.ticket) y in
+    ap (λ zs. first ++ zs) (batch_calls_push list ys x) ∙ sym (append_assoc first (batch_calls list ys) (batch_call (call_with_ticket list x.ticket) x))
 
 row_waiter : (w : WaitingCall) (call : CallRec) (b : Bool) (rest : Option WaitingCall) → (b ≡ true → is_row_op w.call.op ≡ true) → (option_map (λ v. v.call) rest ≡ Some call → is_row_op call.op ≡ true)
     → option_map (λ v. v.call) (cond b (Some w) rest) ≡ Some call → is_row_op call.op ≡ true
@@ -69,9 +69,9 @@ row_planned (Some call) planned h = both (is_row_op call.op) true (h call refl) 
 pub row_batch_calls : (list : WaitList) (calls : List Planned) → are_row_waiters list.calls ≡ true → are_row_calls (batch_calls list calls) ≡ true
 row_batch_calls list [] h = refl
 row_batch_calls list (planned ∷ calls) h =
-    list_all-append (λ (c : BatchCall). is_row_op c.call.op) (batch_call (call_of list planned.ticket) planned) (batch_calls list calls)
-    ∙ both (are_row_calls (batch_call (call_of list planned.ticket) planned)) (are_row_calls (batch_calls list calls))
-    (row_planned (call_of list planned.ticket) planned (λ call is. row_call list.calls planned.ticket call h is)) (row_batch_calls list calls h)
+    list_all-append (λ (c : BatchCall). is_row_op c.call.op) (batch_call (call_with_ticket list planned.ticket) planned) (batch_calls list calls)
+    ∙ both (are_row_calls (batch_call (call_with_ticket list planned.ticket) planned)) (are_row_calls (batch_calls list calls))
+    (row_planned (call_with_ticket list planned.ticket) planned (λ call is. row_call list.calls planned.ticket call h is)) (row_batch_calls list calls h)
 
 -- Gather is enabled where the plan is not idle
 pub gather_enabled : (n : NodeState) → is_idle (plan_at n) ≡ false → node_step n Gather ≡ Some (gathered n (plan_at n))

@@ -1,5 +1,5 @@
 -- What holds of each node is kept by each change.
-use Rattle.std.proofs.Common.{◌≡◌, ℕ, ◌+◌, ◌<◌, ◌≤◌, ◌^◌, length, ◌||◌, Bool, true, false, not, cond, ◌&&◌, ◌==◌, List, [], ◌∷◌, ◌++◌, map, filter, IsTrue, nat_lt, Option, Some, None, refl, sym, ap, ◌∙◌, subst, arith}
+use Rattle.std.proofs.Common.{◌≡◌, ℕ, ◌+◌, ◌<◌, ◌≤◌, ◌^◌, length, ◌||◌, Bool, true, false, not, cond, ◌==◌, List, [], ◌∷◌, ◌++◌, map, filter, IsTrue, nat_lt, Option, Some, None, refl, sym, ap, ◌∙◌, subst, arith}
 use Rattle.std.specs.List.{list_all, list_any, find}
 use Rattle.std.proofs.lemmas.Bool.Decides.{nat_tests}
 use Rattle.fal_base.specs.declared.call.CallRec.{CallRec}
@@ -15,11 +15,11 @@ use Rattle.fal_node.specs.declared.batch.BatchCall.{BatchCall}
 use Rattle.fal_node.specs.declared.item.Item.{Item}
 use Rattle.fal_node.specs.Deliver.{without_calls}
 use Rattle.fal_node.specs.State.{NodeState}
-use Rattle.fal_node.specs.Patch.{Room}
+use Rattle.fal_node.specs.Patch.{NodeRoom}
 use Rattle.fal_node.specs.Ready.{CanHaveBatch, HasRoomForBatch}
 use Rattle.fal_node.specs.Gather.{with_fetches, with_waiting}
 use Rattle.fal_node.specs.Exec.{as_executed}
-use Rattle.fal_node.specs.Sound.{is_row_op, are_row_waiters, are_row_calls, are_row_batches, are_holders_below, AreItems, AreBatches}
+use Rattle.fal_node.specs.Sound.{is_row_op, are_row_waiters, are_row_calls, are_row_batches, are_holders_below, AreItemsNumbered, AreBatches}
 use Rattle.fal_wait.proofs.Ascending.{both, first_of_both, second_of_both, all_push, all_map, all_without, below_more, below_next, ascending_map, ascending_without, ascending_push}
 
 pub all_filter : {X : Type 0} (p test : X → Bool) (xs : List X) → list_all p xs ≡ true → list_all p (filter test xs) ≡ true
@@ -69,10 +69,10 @@ sound_settle list number sound = elim (fetch_of list number) as (λ f. are_row_w
 
 -- items
 
-pub item_kept : (items : List Item) (end : ℕ) (item : Item) → AreItems items end → item.number ≡ end → AreItems (items ++ item ∷ []) (end + 1)
-item_kept items end item items_are is = subst (λ n. AreItems (items ++ item ∷ []) (n + 1)) is (ascending_push (λ (i : Item). i.number) items item (subst (AreItems items) (sym is) items_are))
+pub item_kept : (items : List Item) (end : ℕ) (item : Item) → AreItemsNumbered items end → item.number ≡ end → AreItemsNumbered (items ++ item ∷ []) (end + 1)
+item_kept items end item items_are is = subst (λ n. AreItemsNumbered (items ++ item ∷ []) (n + 1)) is (ascending_push (λ (i : Item). i.number) items item (subst (AreItemsNumbered items) (sym is) items_are))
 
-pub item_served : (items : List Item) (end number : ℕ) → AreItems items end → AreItems (without_first (λ item. item.number == number) items) end
+pub item_served : (items : List Item) (end number : ℕ) → AreItemsNumbered items end → AreItemsNumbered (without_first (λ item. item.number == number) items) end
 item_served items end number items_are = ascending_without (λ (i : Item). i.number) (λ item. item.number == number) items end items_are
 
 -- batches
@@ -139,7 +139,7 @@ can_have_batch_kept s t fetches tickets state (call ∷ calls) keys h = record {
 }
 
 -- so is the room
-pub batch_room_kept : (r t : Room) → t.batches ≡ r.batches → t.locks ≡ r.locks → (calls : List BatchCall) (keys : List Key) → HasRoomForBatch r calls keys → HasRoomForBatch t calls keys
+pub batch_room_kept : (r t : NodeRoom) → t.batches ≡ r.batches → t.locks ≡ r.locks → (calls : List BatchCall) (keys : List Key) → HasRoomForBatch r calls keys → HasRoomForBatch t calls keys
 batch_room_kept r t batches locks [] keys h = tt
 batch_room_kept r t batches locks (call ∷ calls) keys h = record {
   batch = subst (λ n. 1 ≤ n) (sym batches) h.batch;

@@ -123,6 +123,11 @@ next_fits w p ps h draws =
     let same = number_same (exec_one w p) ps in
     omega arith
 
+-- what is left of the batch is within the ranges, as the whole is
+pub within_now : (n : NodeState) (run : Run) (whole : Work) (left : List BatchCall) (p : BatchCall) (ps : List BatchCall) → exec_all (run_work n run) left ≡ whole → left ≡ p ∷ ps → IsWithin whole
+    → IsWithin (exec_all (run_work n run) (p ∷ ps))
+within_now n run whole left p ps same is within = subst (λ xs. IsWithin (exec_all (run_work n run) xs)) is (subst IsWithin (sym same) within)
+
 pub number_now : (n : NodeState) (run : Run) (p : BatchCall) (ps : List BatchCall) → IsWithin (exec_all (run_work n run) (p ∷ ps))
     → 0 < drawn_by p.call.op (change_of (call_outcome n.number (rows_changed n.rows run.changes.items) (n.drawn + run.drawn) p)) → number_after n.number (n.drawn + run.drawn) < 2 ^ 64
 unfolding with_rows with_executed

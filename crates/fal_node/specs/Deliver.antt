@@ -11,7 +11,7 @@ use Rattle.fal_base.specs.declared.reply.Reply.TheVariants.{Fail}
 use Rattle.fal_base.specs.Maps.{with_value}
 use Rattle.fal_exec.specs.RowCall.{row_names}
 use Rattle.fal_wait.specs.declared.pending_fetch.PendingFetch.{PendingFetch}
-use Rattle.fal_wait.specs.Waiting.{WaitList, call_of, fetch_of, after_admit, after_settle, without_call}
+use Rattle.fal_wait.specs.Waiting.{WaitList, call_with_ticket, fetch_of, after_admit, after_settle, without_call}
 use Rattle.fal_wire.specs.declared.fault.WireFault.{WireFault}
 use Rattle.fal_wire.specs.declared.message.Found.{Found}
 use Rattle.fal_wire.specs.declared.message.Found.TheVariants as found
@@ -34,9 +34,9 @@ take_call node call = if is_some (row_names call.op) then admitted node call els
 abbrev pub take_question : NodeState → ℕ → ℕ → Key → NodeState
 take_question node asker number key = if is_asker node.table.nodes asker then with_item node (message.FetchAsk asker number key) else node
 
--- the fetch is settled, and the directory is installed: its waiters are free
-unfoldable pub installed : NodeState → ℕ → Key → Dentry → NodeState
-installed node number key dentry =
+-- the fetch is settled, and the directory is learned: its waiters are free
+unfoldable pub learned : NodeState → ℕ → Key → Dentry → NodeState
+learned node number key dentry =
     record node {
       waiting = after_settle node.waiting number;
       replica = with_value node.replica key dentry;
@@ -47,9 +47,9 @@ abbrev pub without_calls : WaitList → List ℕ → WaitList
 without_calls list [] = list
 without_calls list (ticket ∷ tickets) = without_calls (without_call list ticket) tickets
 
--- the fetch is settled, and its waiters have left
-unfoldable pub emptied : NodeState → ℕ → List ℕ → NodeState
-emptied node number waiters = record node { waiting = without_calls (after_settle node.waiting number) waiters }
+-- the fetch is settled, and its waiters are dismissed: they have left
+unfoldable pub dismissed : NodeState → ℕ → List ℕ → NodeState
+dismissed node number waiters = record node { waiting = without_calls (after_settle node.waiting number) waiters }
 
 abbrev pub refusal : Option CallRec → Errno → ℕ → List Letter
 refusal None errno point = []
@@ -58,15 +58,15 @@ refusal (Some call) errno point = reply_letter call (Carried point) (Fail errno)
 -- the answers to the waiters, in the order of their arrival, at the point that came with the record
 abbrev pub refusals : WaitList → Errno → ℕ → List ℕ → List Letter
 refusals list errno point [] = []
-refusals list errno point (ticket ∷ tickets) = refusal (call_of list ticket) errno point ++ refusals list errno point tickets
+refusals list errno point (ticket ∷ tickets) = refusal (call_with_ticket list ticket) errno point ++ refusals list errno point tickets
 
 -- nothing to walk through stands there, so each waiter leaves with this errno
 abbrev pub refuse : NodeState → ℕ → Errno → PendingFetch → Work
 refuse node point errno fetch =
-    record { node = emptied node fetch.number fetch.waiters; sent = refusals node.waiting errno point fetch.waiters; notes = [] }
+    record { node = dismissed node fetch.number fetch.waiters; sent = refusals node.waiting errno point fetch.waiters; notes = [] }
 
 abbrev pub settle : NodeState → ℕ → Key → Found → PendingFetch → Work
-settle node point key (found.Dir dentry) fetch = begun (installed node fetch.number key dentry)
+settle node point key (found.Dir dentry) fetch = begun (learned node fetch.number key dentry)
 settle node point key found.Nothing fetch = refuse node point Enoent fetch
 settle node point key found.File fetch = refuse node point Enotdir fetch
 

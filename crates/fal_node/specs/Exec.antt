@@ -15,7 +15,7 @@ use Rattle.fal_exec.specs.declared.outcome.Change.{Change}
 use Rattle.fal_exec.specs.declared.outcome.Change.TheVariants as change
 use Rattle.fal_exec.specs.declared.outcome.ExecOut.{ExecOut}
 use Rattle.fal_exec.specs.declared.outcome.ExecOut.TheVariants as out
-use Rattle.fal_exec.specs.Outcome.{kept, outcome_of}
+use Rattle.fal_exec.specs.Outcome.{without_change, outcome_of}
 use Rattle.fal_wire.specs.declared.message.Message.TheVariants as message
 use Rattle.fal_node.specs.declared.batch.Batch.{Batch}
 use Rattle.fal_node.specs.declared.batch.BatchCall.{BatchCall}
@@ -53,7 +53,7 @@ noted_number op fresh = if is_making op then fresh else 0
 -- what comes of a call, by the rows and by how many numbers were drawn
 abbrev pub call_outcome : ℕ → Tree → ℕ → BatchCall → ExecOut
 call_outcome node rows drawn planned =
-    if planned.denied then kept (Fail Eacces)
+    if planned.denied then without_change (Fail Eacces)
     else outcome_of (row_at rows planned.last) planned.parent planned.call.cred planned.call.op (number_after node drawn)
 
 -- the record to whom the call is answered by, after so many commits of this event

@@ -6,7 +6,7 @@ use Rattle.fal_base.specs.declared.event.Point.TheVariants.{Here}
 use Rattle.fal_base.specs.declared.key.Key.{Key}
 use Rattle.fal_place.specs.Placement.{owner, changes_since}
 use Rattle.fal_locks.specs.Locks.{with_holder}
-use Rattle.fal_wait.specs.Waiting.{WaitList, call_of, after_open}
+use Rattle.fal_wait.specs.Waiting.{WaitList, call_with_ticket, after_open}
 use Rattle.fal_wire.specs.declared.message.Message.TheVariants as message
 use Rattle.fal_batch.specs.declared.parts.Planned.{Planned}
 use Rattle.fal_batch.specs.declared.parts.Sending.{Sending}
@@ -51,7 +51,7 @@ ask_letter node number key = letter (Node (owner node.table key)) (Here 0) (mess
 -- the records in the order in which their calls were met; the fetches have the next numbers
 abbrev pub gather_letters : NodeState → ℕ → List Sending → List Letter
 gather_letters node number [] = []
-gather_letters node number (sending.Away away ∷ sends) = away_letters node (call_of node.waiting away.ticket) away.to ++ gather_letters node number sends
+gather_letters node number (sending.Away away ∷ sends) = away_letters node (call_with_ticket node.waiting away.ticket) away.to ++ gather_letters node number sends
 gather_letters node number (sending.Fetch key ∷ sends) = ask_letter node number key ∷ gather_letters node (number + 1) sends
 
 -- the fetches are pending, in their order
@@ -70,7 +70,7 @@ batch_call (Some call) planned = record { call = call; denied = planned.denied; 
 -- the planned calls with their records
 abbrev pub batch_calls : WaitList → List Planned → List BatchCall
 batch_calls list [] = []
-batch_calls list (planned ∷ calls) = batch_call (call_of list planned.ticket) planned ++ batch_calls list calls
+batch_calls list (planned ∷ calls) = batch_call (call_with_ticket list planned.ticket) planned ++ batch_calls list calls
 
 -- the fetches are opened, and the calls with these tickets have left
 unfoldable pub with_waiting : NodeState → List Wanted → List ℕ → NodeState

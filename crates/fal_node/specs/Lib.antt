@@ -7,7 +7,6 @@ pub mod Exec
 pub mod Serve
 pub mod Step
 pub mod Due
-pub mod Places
 pub mod Patch
 pub mod Ready
 pub mod Runs

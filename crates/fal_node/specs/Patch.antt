@@ -9,12 +9,12 @@ use Rattle.fal_node.specs.declared.patch.Patch.{Patch}
 use Rattle.fal_node.specs.declared.patch.Patch.TheVariants as patch
 use Rattle.fal_node.specs.declared.patch.RowChange.{RowChange}
 use Rattle.fal_node.specs.State.{NodeState, with_item, without_item, released}
-use Rattle.fal_node.specs.Deliver.{admitted, installed, emptied}
+use Rattle.fal_node.specs.Deliver.{admitted, learned, dismissed}
 use Rattle.fal_node.specs.Gather.{with_waiting, with_batch}
 use Rattle.fal_node.specs.Exec.{rows_after, with_executed}
 
 -- for how many more of each there is room
-pub record Room : Type 0 where
+pub record NodeRoom : Type 0 where
   pub rows : ℕ
   pub replica : ℕ
   pub locks : ℕ
@@ -23,9 +23,9 @@ pub record Room : Type 0 where
   pub batches : ℕ
 
 -- what contracts see of a node
-pub record Seen : Type 0 where
+pub record SeenNode : Type 0 where
   pub state : NodeState
-  pub room : Room
+  pub room : NodeRoom
 
 -- the rows after changes, in their order
 abbrev pub rows_changed : Tree → List RowChange → Tree
@@ -51,8 +51,8 @@ abbrev pub patched : NodeState → Patch → NodeState
 patched node patch.Nothing = node
 patched node (patch.Admit call) = admitted node call
 patched node (patch.Keep message) = with_item node message
-patched node (patch.Learn fetch key dentry) = installed node fetch key dentry
-patched node (patch.Leave fetch tickets) = emptied node fetch tickets.items
+patched node (patch.Learn fetch key dentry) = learned node fetch key dentry
+patched node (patch.Dismiss fetch tickets) = dismissed node fetch tickets.items
 patched node (patch.Gather fetches tickets calls keys) = with_batch (with_waiting node fetches.items tickets.items) calls keys.items
 patched node (patch.Execute batch changes drawn) = with_rows (with_executed node batch) changes.items drawn
 patched node (patch.Release batch) = released node batch

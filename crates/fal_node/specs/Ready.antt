@@ -15,7 +15,7 @@ use Rattle.fal_node.specs.State.{NodeState}
 use Rattle.fal_wire.specs.Letters.{output_of}
 use Rattle.fal_node.specs.Letters.{Work}
 use Rattle.fal_node.specs.Step.{node_step}
-use Rattle.fal_node.specs.Patch.{Room, Seen, patched, puts_in}
+use Rattle.fal_node.specs.Patch.{NodeRoom, SeenNode, patched, puts_in}
 use Rattle.fal_node.specs.Sound.{is_row_op, are_row_calls}
 
 -- each fetch's waiters are free when it is opened
@@ -24,13 +24,13 @@ CanOpen list [] = Unit {0}
 CanOpen list (wanted ∷ fetches) = IsPartOf wanted.waiters (free_tickets list) × CanOpen (after_open list wanted.key wanted.waiters) fetches
 
 -- there is room for a batch that holds the keys
-pub record HasBatchRoom (room : Room) (keys : List Key) : Type 0 where
+pub record HasBatchRoom (room : NodeRoom) (keys : List Key) : Type 0 where
   pub batch : 1 ≤ room.batches
   pub holder : 1 ≤ room.locks
   pub holder_keys : length keys ≤ room.locks
 
 -- where no call joins there is no batch
-abbrev pub HasRoomForBatch : Room → List BatchCall → List Key → Type 0
+abbrev pub HasRoomForBatch : NodeRoom → List BatchCall → List Key → Type 0
 HasRoomForBatch room [] keys = Unit {0}
 HasRoomForBatch room (call ∷ calls) keys = HasBatchRoom room keys
 
@@ -45,12 +45,12 @@ CanHaveBatch node [] keys = Unit {0}
 CanHaveBatch node (call ∷ calls) keys = CanBatch node (call ∷ calls) keys
 
 -- there is room for the change
-abbrev pub HasRoom : Room → Patch → Type 0
+abbrev pub HasRoom : NodeRoom → Patch → Type 0
 HasRoom room patch.Nothing = Unit {0}
 HasRoom room (patch.Admit call) = 1 ≤ room.waiting
 HasRoom room (patch.Keep message) = 1 ≤ room.items
 HasRoom room (patch.Learn fetch key dentry) = 1 ≤ room.replica
-HasRoom room (patch.Leave fetch tickets) = Unit {0}
+HasRoom room (patch.Dismiss fetch tickets) = Unit {0}
 HasRoom room (patch.Gather fetches tickets calls keys) = (length fetches.items ≤ room.waiting) × HasRoomForBatch room calls keys.items
 HasRoom room (patch.Execute batch changes drawn) = puts_in changes.items ≤ room.rows
 HasRoom room (patch.Release batch) = Unit {0}
@@ -62,37 +62,37 @@ CanChange node patch.Nothing = Unit {0}
 CanChange node (patch.Admit call) = (node.waiting.tickets + 1 < 2 ^ 64) × IsTrue (is_row_op call.op)
 CanChange node (patch.Keep message) = node.items_numbered + 1 < 2 ^ 64
 CanChange node (patch.Learn fetch key dentry) = Unit {0}
-CanChange node (patch.Leave fetch tickets) = Unit {0}
+CanChange node (patch.Dismiss fetch tickets) = Unit {0}
 CanChange node (patch.Gather fetches tickets calls keys) =
     (node.waiting.opened + length fetches.items ≤ 2 ^ 64) × CanOpen node.waiting fetches.items × CanHaveBatch node calls keys.items
 CanChange node (patch.Execute batch changes drawn) = node.drawn + drawn < 2 ^ 64
 CanChange node (patch.Release batch) = Unit {0}
 CanChange node (patch.Serve item) = Unit {0}
 
-abbrev pub CanPatch : Seen → Patch → Type 0
+abbrev pub CanPatch : SeenNode → Patch → Type 0
 CanPatch s patch = HasRoom s.room patch × CanChange s.state patch
 
 -- the node can make the step that was prepared
-abbrev pub CanApply : Seen → Prepared → Type 0
+abbrev pub CanApply : SeenNode → Prepared → Type 0
 CanApply s prepared = CanPatch s prepared.patch
 
 -- the node after it
-abbrev pub after : Seen → Prepared → NodeState
+abbrev pub after : SeenNode → Prepared → NodeState
 after s prepared = patched s.state prepared.patch
 
 -- what was prepared is the step that does this work, and can be made
-pub record IsStep (s : Seen) (work : Work) (prepared : Prepared) : Type 0 where
+pub record IsStep (s : SeenNode) (work : Work) (prepared : Prepared) : Type 0 where
   pub node : work.node ≡ patched s.state prepared.patch
   pub sent : prepared.outputs.sent ≡ map output_of work.sent
   pub notes : prepared.outputs.notes ≡ work.notes
   pub can_apply : CanApply s prepared
 
-abbrev pub IsStepOf : Seen → Option Work → Prepared → Type 0
+abbrev pub IsStepOf : SeenNode → Option Work → Prepared → Type 0
 IsStepOf s None prepared = ⊥
 IsStepOf s (Some work) prepared = IsStep s work prepared
 
 -- what was prepared is the node's step for the event
-abbrev pub IsStepFor : Seen → NodeEvent → Prepared → Type 0
+abbrev pub IsStepFor : SeenNode → NodeEvent → Prepared → Type 0
 IsStepFor s event prepared = IsStepOf s (node_step s.state event) prepared
 
 -- the change, the messages and the notes of a draft are those of the work

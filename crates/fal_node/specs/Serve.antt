@@ -1,5 +1,5 @@
--- An item is served.
-use Rattle.std.specs.Prelude.{ℕ, Bool, false, not, ◌&&◌, ◌||◌, List, [], ◌∷◌, Option, None, Some, ◌==◌, if◌then◌else◌}
+-- An item is served: a record that the node has kept until it can.
+use Rattle.std.specs.Prelude.{ℕ, Bool, false, not, ◌&&◌, ◌||◌, [], ◌∷◌, Option, None, Some, ◌==◌, if◌then◌else◌}
 use Rattle.fal_base.specs.declared.event.Actor.TheVariants.{Node}
 use Rattle.fal_base.specs.declared.event.Point.TheVariants.{Here}
 use Rattle.fal_base.specs.declared.key.Key.{Key}
@@ -13,13 +13,20 @@ use Rattle.fal_node.specs.declared.item.Item.{Item}
 use Rattle.fal_wire.specs.declared.letter.Letter.{Letter}
 use Rattle.fal_node.specs.State.{NodeState, blocked_names, without_item}
 use Rattle.fal_wire.specs.Letters.{letter}
-use Rattle.fal_node.specs.Letters.{Work, asker_of}
+use Rattle.fal_node.specs.Letters.{Work, begun, asker_of}
+
+-- how a record is served: whether it can be now, and the work that this is, but that the item goes
+pub record Service : Type 0 where
+  pub can : Bool
+  pub work : Work
+
+-- ---- a question about a directory
 
 -- whether the key lives at this node by its table
 abbrev pub owns : NodeState → Key → Bool
 owns node key = owner node.table key == node.number
 
--- a fetch is served where its name is not blocked, and this node is not the owner or the key is not shut
+-- it is served where its name is not blocked, and this node is not the owner or the key is not shut
 abbrev pub can_tell : NodeState → Key → Bool
 can_tell node key = not (bars (blocked_names node.blocked) key.name) && (not (owns node key) || not (is_shut node.locks key))
 
@@ -29,18 +36,35 @@ fetch_letter node asker number key =
     if owns node key then letter (asker_of asker) (Here 0) (fetched_of node.rows number key)
     else letter (Node (owner node.table key)) (Here 0) (message.FetchAsk asker number key)
 
--- whether the condition of the item holds. No other records are items so far
-abbrev pub can_serve : NodeState → Message → Bool
-can_serve node (message.FetchAsk asker number key) = can_tell node key
-can_serve node other = false
+-- nothing else changes
+abbrev pub fetch_service : NodeState → ℕ → ℕ → Key → Service
+fetch_service node asker number key = record { can = can_tell node key; work = record (begun node) { sent = fetch_letter node asker number key ∷ [] } }
 
--- the records that serve the item
-abbrev pub served_letters : NodeState → Message → List Letter
-served_letters node (message.FetchAsk asker number key) = fetch_letter node asker number key ∷ []
-served_letters node other = []
+-- ---- any item
+
+-- a record that is no item is never served
+abbrev pub no_service : NodeState → Service
+no_service node = record { can = false; work = begun node }
+
+-- by the kind of the record
+abbrev pub service_of : NodeState → Message → Service
+service_of node (message.FetchAsk asker number key) = fetch_service node asker number key
+service_of node other = no_service node
+
+-- whether the condition of the item holds
+abbrev pub can_serve : NodeState → Message → Bool
+can_serve node message = (service_of node message).can
+
+-- the work of the service, and the item with this number is gone
+abbrev pub served_as : Service → ℕ → Work
+served_as service number = record service.work { node = without_item service.work.node number }
+
+-- None where the service cannot be now
+abbrev pub serve_as : Service → ℕ → Option Work
+serve_as service number = if service.can then Some (served_as service number) else None
 
 unfoldable pub served : NodeState → Item → Work
-served node item = record { node = without_item node item.number; sent = served_letters node item.message; notes = [] }
+served node item = served_as (service_of node item.message) item.number
 
 -- the item is there and its condition holds
 abbrev pub serve : NodeState → Option Item → Option Work

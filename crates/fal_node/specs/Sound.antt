@@ -28,8 +28,8 @@ abbrev pub are_holders_below : LockTable → ℕ → Bool
 are_holders_below locks end = list_all (λ holder. nat_lt holder.number end) locks.holders
 
 -- the items ascend by their numbers, which are below the next one
-abbrev pub AreItems : List Item → ℕ → Type 0
-AreItems items end = IsTrue (are_ascending (λ (item : Item). item.number) items end)
+abbrev pub AreItemsNumbered : List Item → ℕ → Type 0
+AreItemsNumbered items end = IsTrue (are_ascending (λ (item : Item). item.number) items end)
 
 -- one row decides each call of a batch, and the batches ascend by their numbers; so the next batch's number is new, and among the locks, too
 pub record AreBatches (batches : List Batch) (locks : LockTable) (end : ℕ) : Type 0 where
@@ -38,7 +38,7 @@ pub record AreBatches (batches : List Batch) (locks : LockTable) (end : ℕ) : T
   pub holders : IsTrue (are_holders_below locks end)
 
 -- one row decides each call that waits, and items and batches are in the order of their numbers
-pub record IsSound (calls : List WaitingCall) (items : List Item) (items_numbered : ℕ) (batches : List Batch) (locks : LockTable) (batches_numbered : ℕ) : Type 0 where
+pub record IsSoundNode (calls : List WaitingCall) (items : List Item) (items_numbered : ℕ) (batches : List Batch) (locks : LockTable) (batches_numbered : ℕ) : Type 0 where
   pub calls_waiting : IsTrue (are_row_waiters calls)
-  pub items_kept : AreItems items items_numbered
+  pub items_kept : AreItemsNumbered items items_numbered
   pub batches_made : AreBatches batches locks batches_numbered

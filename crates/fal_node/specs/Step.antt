@@ -17,10 +17,10 @@ use Rattle.fal_node.specs.Gather.{plan_at, gather}
 use Rattle.fal_node.specs.Exec.{execute}
 use Rattle.fal_node.specs.Serve.{serve}
 
-abbrev pub is_node : Actor → ℕ → Bool
-is_node (Client lane) number = false
-is_node (Node node) number = node == number
-is_node Coord number = false
+abbrev pub is_to_node : Actor → ℕ → Bool
+is_to_node (Client lane) number = false
+is_to_node (Node node) number = node == number
+is_to_node Coord number = false
 
 abbrev pub only_if : {A : Type 0} → Bool → A → Option A
 only_if true x = Some x
@@ -33,7 +33,7 @@ release node number (Some batch) = only_if batch.executed (begun (released node 
 
 -- None where the event is not enabled
 unfoldable pub node_step : NodeState → NodeEvent → Option Work
-node_step node (Deliver envelope) = only_if (is_node envelope.to node.number) (delivered node envelope)
+node_step node (Deliver envelope) = only_if (is_to_node envelope.to node.number) (delivered node envelope)
 node_step node Gather = gather node (plan_at node)
 node_step node (Exec number) = execute node number (batch_of node number)
 node_step node (Release number) = release node number (batch_of node number)

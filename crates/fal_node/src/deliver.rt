@@ -8,7 +8,7 @@ ghost use Rattle.fal_node.specs.declared.event.NodeEvent.TheVariants as NodeEven
 ghost use Rattle.fal_node.specs.Letters.{begun, is_asker as is_asker_of};
 ghost use Rattle.fal_node.specs.State.{with_item};
 ghost use Rattle.fal_node.specs.Deliver.{take_call as take_call_of, take_question as take_question_of, take_message as take_message_of, take_read};
-ghost use Rattle.fal_node.specs.Step.{is_node as is_node_of, node_step};
+ghost use Rattle.fal_node.specs.Step.{is_to_node as is_node_of, node_step};
 ghost use Rattle.fal_node.specs.Ready.{Does, DoesOf, CanDraft};
 
 use crate::draft::{Draft, quiet_draft};

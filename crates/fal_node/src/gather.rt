@@ -1,7 +1,7 @@
 ghost use Rattle.std.specs.Prelude.{◌≡◌, ◌<◌, ◌^◌, ◌++◌, not, map, IfOk, OnOk, OnErr, IsSome, None};
 ghost use Rattle.std.specs.List.{All};
 ghost use Rattle.std.specs.Option.{ForSome};
-ghost use Rattle.fal_wait.specs.Waiting.{IsNumbered, call_of, count_to};
+ghost use Rattle.fal_wait.specs.Waiting.{IsNumbered, call_with_ticket, count_to};
 ghost use Rattle.fal_locks.specs.Locks.{first_shut};
 ghost use Rattle.fal_wire.specs.Messages.{Fits};
 ghost use Rattle.fal_batch.specs.Plan.{is_idle};
@@ -111,8 +111,8 @@ fn ask_letter(node: &Node, number: u64, key: &Key) -> Result<Letter, OutOfMemory
 
 // Puts the record for a call that leaves at the end, if the call is there.
 fn add_away(node: &Node, letters: &mut Vec<Letter>, away: &Away) -> Result<(), OutOfMemory>
-    requires { All (λ letter. Fits letter.message) (away_letters_of node.now.state (call_of node.now.state.waiting away.now.ticket) away.now.to) }
-    ensures { OnOk result (letters.new.items ≡ letters.old.items ++ away_letters_of node.now.state (call_of node.now.state.waiting away.now.ticket) away.now.to) }
+    requires { All (λ letter. Fits letter.message) (away_letters_of node.now.state (call_with_ticket node.now.state.waiting away.now.ticket) away.now.to) }
+    ensures { OnOk result (letters.new.items ≡ letters.old.items ++ away_letters_of node.now.state (call_with_ticket node.now.state.waiting away.now.ticket) away.now.to) }
 {
     match node.waiting.call(away.ticket) {
         None => Ok(()),
@@ -211,7 +211,7 @@ fn add_call(
     calls: &mut Items<BatchCall>,
     planned: Planned,
 ) -> Result<(), OutOfMemory>
-    ensures { OnOk result (calls.new ≡ calls.old ++ batch_call_of (call_of waiting.now.list planned.ticket) planned) }
+    ensures { OnOk result (calls.new ≡ calls.old ++ batch_call_of (call_with_ticket waiting.now.list planned.ticket) planned) }
 {
     let Planned {
         ticket,

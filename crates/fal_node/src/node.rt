@@ -36,10 +36,10 @@ pub struct Node {
 
 impl Model for Node {
     ghost use Rattle.std.specs.Prelude.{◌-◌, vec_len, vec_capacity};
-    ghost use Rattle.fal_node.specs.Patch.{Seen};
-    ghost use Rattle.fal_node.specs.Sound.{IsSound};
+    ghost use Rattle.fal_node.specs.Patch.{SeenNode};
+    ghost use Rattle.fal_node.specs.Sound.{IsSoundNode};
 
-    ghost Value = { Seen };
+    ghost Value = { SeenNode };
 
     ghost view = { λ a. record {
       state = record {
@@ -68,7 +68,7 @@ impl Model for Node {
       };
     } };
 
-    ghost invariant = { λ a. IsSound a.waiting.list.calls a.items.items a.items_numbered a.batches.items a.locks.table a.batches_numbered };
+    ghost invariant = { λ a. IsSoundNode a.waiting.list.calls a.items.items a.items_numbered a.batches.items a.locks.table a.batches_numbered };
 }
 
 // The rows that a node has at first.

@@ -21,14 +21,14 @@ pub enum Patch {
     Nothing,
     Admit(CallRec),
     Keep(Message),
-    /// The fetch is settled, and the directory is known.
+    /// The fetch is settled, and the directory is learned.
     Learn {
         fetch: u64,
         key: Key,
         dentry: Dentry,
     },
-    /// The fetch is settled, and the calls with these tickets leave.
-    Leave {
+    /// The fetch is settled, and the calls with these tickets are dismissed.
+    Dismiss {
         fetch: u64,
         tickets: Vec<u64>,
     },

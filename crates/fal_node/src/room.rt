@@ -77,7 +77,7 @@ impl Node {
             Patch::Admit(_) => self.make_room_for_call(),
             Patch::Keep(_) => self.make_room_for_item(),
             Patch::Learn { .. } => self.make_room_for_dentry(),
-            Patch::Leave { .. } => Ok(()),
+            Patch::Dismiss { .. } => Ok(()),
             Patch::Gather { fetches, keys, .. } => self.make_room_to_gather(
                 fetches.len(),
                 keys.len(),

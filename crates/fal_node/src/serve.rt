@@ -5,7 +5,7 @@ ghost use Rattle.fal_locks.specs.Locks.{is_shut as is_shut_by};
 ghost use Rattle.fal_batch.specs.Fate.{bars as bars_name};
 ghost use Rattle.fal_node.specs.State.{item_of, batch_of};
 ghost use Rattle.fal_node.specs.Letters.{asker_of};
-ghost use Rattle.fal_node.specs.Serve.{can_tell as can_tell_of, fetch_letter as fetch_letter_of, serve as serve_of};
+ghost use Rattle.fal_node.specs.Serve.{can_tell as can_tell_of, fetch_letter as fetch_letter_of, fetch_service, serve_as, can_serve as can_serve_of, serve as serve_of};
 ghost use Rattle.fal_node.specs.Step.{release as release_of};
 ghost use Rattle.fal_node.specs.Ready.{DoesOf, CanDraft};
 
@@ -39,7 +39,7 @@ fn is_shut(locks: &Locks, key: &Key) -> bool
 }
 
 // Whether a fetch of the key can be served.
-pub(crate) fn can_tell(node: &Node, key: &Key) -> bool
+fn can_tell(node: &Node, key: &Key) -> bool
     ensures { result ≡ can_tell_of node.now.state key.now }
 {
     let nothing = Barred::Nothing;
@@ -95,7 +95,37 @@ pub(crate) fn find_batch(batches: &[Batch], number: u64) -> Option<&Batch>
     batches.iter().find(|batch| batch.number == number)
 }
 
-// Serves the item, where its condition holds.
+// Serves the item with this number, a question about the directory of the key, where it can be served.
+fn serve_fetch(
+    node: &Node,
+    item: u64,
+    asker: u8,
+    number: u64,
+    key: &Key,
+) -> Result<Option<Draft>, OutOfMemory>
+    ensures does { IfOk result (λ draft. DoesOf node.now.state (serve_as (fetch_service node.now.state asker number key.now) item) draft) }
+    ensures can { IfOk result (λ draft. ForSome draft (λ d. CanDraft node.now.state d.patch)) }
+    ensures err { OnErr result (IsSome (serve_as (fetch_service node.now.state asker number key.now) item)) }
+{
+    if !can_tell(node, key) {
+        return Ok(None);
+    }
+    let letter = fetch_letter(node, asker, number, key)?;
+    let draft = draft_of_one(node.alloc, Patch::Serve(item), letter)?;
+    Ok(Some(draft))
+}
+
+// Whether the condition of an item with this record holds, by the kind of the record.
+pub(crate) fn can_serve(node: &Node, message: &Message) -> bool
+    ensures { result ≡ can_serve_of node.now.state message.now }
+{
+    match message {
+        Message::FetchAsk { key, .. } => can_tell(node, key),
+        _ => false,
+    }
+}
+
+// Serves the item, where its condition holds, by the kind of the record.
 #[tactic(auto, unfolding(crate::specs::Serve::served))]
 fn serve_item(node: &Node, item: &Item) -> Result<Option<Draft>, OutOfMemory>
     ensures does { IfOk result (λ draft. DoesOf node.now.state (serve_of node.now.state (Some item.now)) draft) }
@@ -104,12 +134,7 @@ fn serve_item(node: &Node, item: &Item) -> Result<Option<Draft>, OutOfMemory>
 {
     match &item.message {
         Message::FetchAsk { asker, number, key } => {
-            if !can_tell(node, key) {
-                return Ok(None);
-            }
-            let letter = fetch_letter(node, *asker, *number, key)?;
-            let draft = draft_of_one(node.alloc, Patch::Serve(item.number), letter)?;
-            Ok(Some(draft))
+            serve_fetch(node, item.number, *asker, *number, key)
         }
         _ => Ok(None),
     }

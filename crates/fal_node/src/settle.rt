@@ -1,7 +1,7 @@
 //! What was fetched comes.
 
 ghost use Rattle.std.specs.Prelude.{◌≡◌, ◌++◌, IfOk, OnOk};
-ghost use Rattle.fal_wait.specs.Waiting.{call_of, fetch_of};
+ghost use Rattle.fal_wait.specs.Waiting.{call_with_ticket, fetch_of};
 ghost use Rattle.fal_node.specs.Letters.{reply_letter};
 ghost use Rattle.fal_node.specs.Deliver.{refusal, refusals as refusals_of, refuse as refuse_of, settle as settle_of, settle_pending};
 ghost use Rattle.fal_node.specs.Ready.{Does, CanDraft};
@@ -36,7 +36,7 @@ fn add_refusal(
     point: u64,
     ticket: u64,
 ) -> Result<(), OutOfMemory>
-    ensures { OnOk result (letters.new.items ≡ letters.old.items ++ refusal (call_of waiting.now.list ticket) errno point) }
+    ensures { OnOk result (letters.new.items ≡ letters.old.items ++ refusal (call_with_ticket waiting.now.list ticket) errno point) }
 {
     match waiting.call(ticket) {
         None => Ok(()),
@@ -75,7 +75,7 @@ fn refuse(node: &Node, errno: Errno, point: u64, fetch: &PendingFetch) -> Result
     let letters = refusals(node.alloc, &node.waiting, errno, point, tickets)?;
     let tickets = Vec::from_slice(node.alloc, tickets)?;
     Ok(Draft {
-        patch: Patch::Leave {
+        patch: Patch::Dismiss {
             fetch: fetch.number,
             tickets,
         },

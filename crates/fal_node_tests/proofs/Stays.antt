@@ -17,9 +17,9 @@ use Rattle.fal_node.specs.declared.patch.Prepared.{Prepared}
 use Rattle.fal_node.specs.State.{NodeState, opening_node, with_item}
 use Rattle.fal_node.specs.Letters.{Work, begun, is_asker, commits_in}
 use Rattle.fal_node.specs.Deliver.{admitted, take_call, settle_pending, take_message, take_read, delivered}
-use Rattle.fal_node.specs.Patch.{Seen}
+use Rattle.fal_node.specs.Patch.{SeenNode}
 use Rattle.fal_node.specs.Ready.{after, IsStepOf, IsStepFor}
-use Rattle.fal_node.specs.Step.{IsWithin, StaysWithin, is_node, only_if, node_step}
+use Rattle.fal_node.specs.Step.{IsWithin, StaysWithin, is_to_node, only_if, node_step}
 use Rattle.fal_node_tests.specs.Young.{IsYoung, IsDelivery}
 
 -- nothing is sent or noted, and the node is young
@@ -130,12 +130,12 @@ if_there false x w P p is = absurd (cc)
 
 pub stays : (node : NodeState) (e : Envelope) → IsYoung 8 node → StaysWithin node (Deliver e)
 unfolding node_step
-stays node e young work is = if_there (is_node e.to node.number) (delivered node e) work IsWithin (quiet_within 9 (delivered node e) (omega arith) (quiet_delivered 8 node e young)) is
+stays node e young work is = if_there (is_to_node e.to node.number) (delivered node e) work IsWithin (quiet_within 9 (delivered node e) (omega arith) (quiet_delivered 8 node e young)) is
 
 -- the node after it is young
 pub young_after : (n : ℕ) (node : NodeState) (e : Envelope) (work : Work) → IsYoung n node → node_step node (Deliver e) ≡ Some work → IsYoung (n + 1) work.node
 unfolding node_step
-young_after n node e work young is = if_there (is_node e.to node.number) (delivered node e) work (λ w. IsYoung (n + 1) w.node) (quiet_delivered n node e young).node is
+young_after n node e work young is = if_there (is_to_node e.to node.number) (delivered node e) work (λ w. IsYoung (n + 1) w.node) (quiet_delivered n node e young).node is
 
 -- what holds of an envelope holds of each delivery
 pub delivery_stays : (node : NodeState) (event : NodeEvent) → IsDelivery event → IsYoung 8 node → StaysWithin node event
@@ -145,12 +145,12 @@ delivery_stays node (Exec number) is young = absurd is
 delivery_stays node (Release number) is young = absurd is
 delivery_stays node (Serve number) is young = absurd is
 
-young_applied : (n : ℕ) (s : Seen) (e : Envelope) (prepared : Prepared) (work : Option Work) → node_step s.state (Deliver e) ≡ work → IsStepOf s work prepared → IsYoung n s.state → IsYoung (n + 1) (after s prepared)
+young_applied : (n : ℕ) (s : SeenNode) (e : Envelope) (prepared : Prepared) (work : Option Work) → node_step s.state (Deliver e) ≡ work → IsStepOf s work prepared → IsYoung n s.state → IsYoung (n + 1) (after s prepared)
 young_applied n s e prepared None is step young = absurd step
 young_applied n s e prepared (Some work) is step young = subst (λ node. IsYoung (n + 1) node) step.node (young_after n s.state e work young is)
 
 -- a node stays young when what was prepared for a delivery is applied
-pub delivery_applied : (n : ℕ) (s : Seen) (event : NodeEvent) (prepared : Prepared) → IsDelivery event → IsStepFor s event prepared → IsYoung n s.state → IsYoung (n + 1) (after s prepared)
+pub delivery_applied : (n : ℕ) (s : SeenNode) (event : NodeEvent) (prepared : Prepared) → IsDelivery event → IsStepFor s event prepared → IsYoung n s.state → IsYoung (n + 1) (after s prepared)
 delivery_applied n s (Deliver e) prepared is step young = young_applied n s e prepared (node_step s.state (Deliver e)) refl step young
 delivery_applied n s Gather prepared is step young = absurd is
 delivery_applied n s (Exec number) prepared is step young = absurd is

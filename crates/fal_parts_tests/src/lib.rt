@@ -15,3 +15,5 @@ mod places;
 mod replicas;
 #[cfg(test)]
 mod rows;
+#[cfg(test)]
+mod verdicts;

@@ -3,7 +3,7 @@ use Rattle.std.proofs.Common.{ℕ, Bool, true, false, cond, List, [], ◌∷◌,
 use Rattle.std.specs.Prelude.{IsTrue}
 use Rattle.std.specs.List.{list_all}
 use Rattle.fal_base.specs.declared.rule.RuleChange.{RuleChange}
-use Rattle.fal_place.specs.Placement.{insert_by_version, rule_found, with_change, without_name, is_within, AllWithin, IsSound}
+use Rattle.fal_place.specs.Placement.{insert_by_version, rule_found, with_change, without_name, is_within, AllWithin, IsSoundTable}
 use Rattle.fal_place.proofs.Rising.{and_first, and_second, and_both, by_version-with_change}
 
 pub list_all-filter : (p test : RuleChange → Bool) (rules : List RuleChange) → IsTrue (list_all p rules) → IsTrue (list_all p (filter test rules))
@@ -28,7 +28,7 @@ pub list_all-with_change : (p : RuleChange → Bool) (rules : List RuleChange) (
 list_all-with_change p rules change one all = list_all-insert_by_version p change (without_name change.name rules) one (list_all-filter p _ rules all)
 
 -- a table stays sound when it takes a rule
-pub sound-with_change : (nodes : ℕ) (rules : List RuleChange) (change : RuleChange) → IsTrue (is_within nodes change.rule) → IsSound nodes rules → IsSound nodes (with_change rules change)
+pub sound-with_change : (nodes : ℕ) (rules : List RuleChange) (change : RuleChange) → IsTrue (is_within nodes change.rule) → IsSoundTable nodes rules → IsSoundTable nodes (with_change rules change)
 sound-with_change nodes rules change one sound = record {
   some_nodes = sound.some_nodes;
   few_nodes = sound.few_nodes;
@@ -37,7 +37,7 @@ sound-with_change nodes rules change one sound = record {
 }
 
 -- and when it takes several
-pub sound-with_changes : (nodes : ℕ) (rules : List RuleChange) (changes : List RuleChange) → AllWithin nodes changes → IsSound nodes rules → IsSound nodes (fold with_change rules changes)
+pub sound-with_changes : (nodes : ℕ) (rules : List RuleChange) (changes : List RuleChange) → AllWithin nodes changes → IsSoundTable nodes rules → IsSoundTable nodes (fold with_change rules changes)
 sound-with_changes nodes rules [] all sound = sound
 sound-with_changes nodes rules (change ∷ changes) all sound =
     sound-with_changes nodes (with_change rules change) changes (and_second _ _ all) (sound-with_change nodes rules change (and_first _ _ all) sound)

@@ -131,7 +131,7 @@ abbrev pub AllWithin : ℕ → List RuleChange → Type 0
 AllWithin nodes changes = IsTrue (list_all (λ change. is_within nodes change.rule) changes)
 
 -- what holds of each table: 1 to 16 nodes, rules for these nodes alone, in the order of their versions
-pub record IsSound (nodes : ℕ) (rules : List RuleChange) : Type 0 where
+pub record IsSoundTable (nodes : ℕ) (rules : List RuleChange) : Type 0 where
   pub some_nodes : 1 ≤ nodes
   pub few_nodes : nodes ≤ 16
   pub within : AllWithin nodes rules

@@ -31,13 +31,13 @@ pub struct Table {
 }
 
 impl Model for Table {
-    ghost use Rattle.fal_place.specs.Placement.{Placement, IsSound};
+    ghost use Rattle.fal_place.specs.Placement.{Placement, IsSoundTable};
 
     ghost Value = { Placement };
 
     ghost view = { λ t. record { nodes = t.nodes; version = t.version; rules = t.rules.items } };
 
-    ghost invariant = { λ t. IsSound t.nodes t.rules.items };
+    ghost invariant = { λ t. IsSoundTable t.nodes t.rules.items };
 }
 
 impl Table {

@@ -52,6 +52,8 @@ mod envelopes;
 #[cfg(test)]
 mod events;
 #[cfg(test)]
+mod faults;
+#[cfg(test)]
 mod header;
 #[cfg(test)]
 mod held;

@@ -10,11 +10,19 @@ use Rattle.fal_script.specs.declared.script.ScriptCall.{ScriptCall}
 abbrev pub lane_calls : List ScriptCall → ℕ → List Call
 lane_calls lines lane = map (λ line. line.call) (filter (λ line. line.lane == lane) lines)
 
+-- the calls of each lane, from 1 on
+abbrev pub lanes_of_script : List ScriptCall → ℕ → List (List Call)
+lanes_of_script lines lanes = map (λ lane. lane_calls lines lane) (range_with_len 1 lanes)
+
+-- the lanes of a script's calls, in line order
+abbrev pub order_of : List ScriptCall → List ℕ
+order_of lines = map (λ line. line.lane) lines
+
 -- its nodes, batches of at most so many calls, and the calls of each lane from 1 on
 abbrev pub config_of_script : Script → ℕ → Config
 config_of_script script batch =
     record {
       nodes = script.nodes;
       batch = batch;
-      lanes = map (λ lane. lane_calls script.lines lane) (range_with_len 1 script.lanes);
+      lanes = lanes_of_script script.lines script.lanes;
     }

@@ -5,6 +5,8 @@
 
 mod calls;
 mod configs;
+mod handed;
+mod law;
 mod lines;
 mod numbers;
 mod reading;
@@ -13,6 +15,8 @@ mod words;
 
 pub use calls::call_words;
 pub use configs::config_of;
+pub use handed::into_config;
+pub use law::scripts_are_in_range;
 pub use numbers::{mode_word, number_up_to};
 pub use reading::read;
 pub use script::{LineList, Script, ScriptCall};

@@ -7,6 +7,7 @@ pub mod FollowClient
 pub mod FollowDeliver
 pub mod FollowExec
 pub mod FollowGather
+pub mod FollowGhost
 pub mod FollowNode
 pub mod FollowRuns
 pub mod Moving
@@ -20,4 +21,5 @@ pub mod NoneDue
 pub mod OnWay
 pub mod OneByOne
 pub mod Quiet
+pub mod SendCounts
 pub mod Unheard

@@ -1,9 +1,11 @@
 pub mod Each
 pub mod EachAll
+pub mod GatherLetters
 pub mod GatherLists
 pub mod GatherPlan
 pub mod Grown
 pub mod Joined
+pub mod MadeLists
 pub mod Members
 pub mod Newer
 pub mod OpenedFetches

@@ -12,7 +12,6 @@ pub mod Moved
 pub mod Outcomes
 pub mod Posted
 pub mod Reads
-pub mod Renames
 pub mod Reopened
 pub mod Skipped
 pub mod Walked

@@ -1,8 +1,7 @@
-pub mod Agrees
+pub mod Among
 pub mod Changed
 pub mod CommitRows
 pub mod Commits
-pub mod Entries
 pub mod Footprint
 pub mod Laid
 pub mod Met
@@ -13,7 +12,5 @@ pub mod Paths
 pub mod Standing
 pub mod Transcript
 pub mod TreeRows
-pub mod Under
 pub mod Unlisted
-pub mod Verdicts
 pub mod Ways

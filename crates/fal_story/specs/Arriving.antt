@@ -31,5 +31,5 @@ AreSentIn first last [] = first ≤ last
 AreSentIn first last (x ∷ xs) = (first ≤ x.sent_at) × AreSentIn x.sent_at last xs
 
 -- the envelopes stand in the order of the events that sent them
-abbrev pub AreInOrder : List Envelope → Type 0
-AreInOrder xs = (last : ℕ) × AreSentIn 0 last xs
+abbrev pub AreSentInOrder : List Envelope → Type 0
+AreSentInOrder xs = (last : ℕ) × AreSentIn 0 last xs

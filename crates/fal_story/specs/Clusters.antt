@@ -1,12 +1,17 @@
 -- Which clusters may run.
-use Rattle.std.specs.Prelude.{◌≡◌, ℕ, ◌≤◌, Bool, true, false, List, [], length, None, IsTrue, nat_lt, nat_le, ◌&&◌, unwrap_or, sum_by}
-use Rattle.std.specs.List.{All}
+use Rattle.std.specs.Prelude.{◌≡◌, ℕ, ◌<◌, ◌≤◌, ◌^◌, Bool, true, false, List, [], length, None, IsTrue, nat_lt, nat_le, ◌&&◌, unwrap_or, sum_by}
+use Rattle.std.specs.List.{All, list_all}
 use Rattle.fal_base.specs.declared.call.Call.{Call}
 use Rattle.fal_base.specs.declared.call.Config.{Config}
 use Rattle.fal_base.specs.declared.op.Op.{Op}
 use Rattle.fal_base.specs.declared.op.Op.TheVariants as op
+use Rattle.fal_base.specs.declared.path.PathArg.{PathArg}
+use Rattle.fal_base.specs.declared.path.PathArg.TheVariants.{Good, Bad}
+use Rattle.fal_base.specs.Names.{is_name}
+use Rattle.fal_base.specs.Paths.{path_bytes}
 use Rattle.fal_base.specs.Transcript.{numbered}
-use Rattle.fal_base.specs.OpPaths.{bad_path}
+use Rattle.fal_base.specs.OpPaths.{bad_path, paths_of}
+use Rattle.fal_base.specs.PathArgs.{IsRead}
 use Rattle.fal_wire.specs.Numbers.{cred_field}
 use Rattle.fal_wire.specs.Ops.{op_field}
 
@@ -20,10 +25,32 @@ is_served (op.Truncate path size) = true
 is_served (op.Unlink path) = true
 is_served other = false
 
--- the call is served, and where its path is good a record can hold it
+-- the call is served, a bad path has the fault of its bytes, and where its path is good a record can hold the call
 pub record IsCall (call : Call) : Type 0 where
   pub served : IsTrue (is_served call.op)
+  pub read : All IsRead (paths_of call.op)
   pub fits : bad_path call.op ≡ None → cred_field.Fits call.cred × op_field.Fits call.op
+
+-- a bad path has the fault of its bytes, and a good one has names that with a slash before each have at most 4,095 bytes
+abbrev pub IsPathInRange : PathArg → Type 0
+IsPathInRange (Good names) = IsTrue (list_all is_name names) × (path_bytes names ≤ 4095)
+IsPathInRange (Bad fault raw) = IsRead (Bad fault raw)
+
+-- the operation is served, its path is such a one, and its number is in range
+abbrev pub IsOpInRange : Op → Type 0
+IsOpInRange (op.Mkdir path mode) = IsPathInRange path × (mode < 512)
+IsOpInRange (op.Create path mode) = IsPathInRange path × (mode < 512)
+IsOpInRange (op.Stat path) = IsPathInRange path
+IsOpInRange (op.Access path want) = IsPathInRange path × (want < 8)
+IsOpInRange (op.Truncate path size) = IsPathInRange path × (size < 2 ^ 63)
+IsOpInRange (op.Unlink path) = IsPathInRange path
+IsOpInRange other = ⊥
+
+-- the same in numbers: the call is served, and its path and its numbers are in range
+pub record IsCallInRange (call : Call) : Type 0 where
+  pub uid : call.cred.uid < 2 ^ 32
+  pub gid : call.cred.gid < 2 ^ 32
+  pub op : IsOpInRange call.op
 
 -- the calls of a lane, which are counted from 1. There are none in a lane that is not there
 abbrev pub calls_of_lane : Config → ℕ → List Call

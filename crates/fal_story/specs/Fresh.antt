@@ -1,5 +1,5 @@
 -- Which events are fresh: those that are enabled, where a delivery is of an envelope that did not come before. And when a cluster is quiet.
-use Rattle.std.specs.Prelude.{◌≡◌, ℕ, suc, Bool, true, false, List, [], ◌∷◌, ◌++◌, length, map, take, Option, Some, None, is_some, if◌then◌else◌, ◌==◌, slice_get}
+use Rattle.std.specs.Prelude.{◌≡◌, ℕ, suc, Bool, true, false, List, [], ◌∷◌, ◌++◌, length, map, take, Option, Some, None, is_some, if◌then◌else◌, slice_get}
 use Rattle.std.specs.List.{flat_map, range_with_len}
 use Rattle.fal_base.specs.declared.call.Config.{Config}
 use Rattle.fal_base.specs.declared.entry.Entry.{Entry}
@@ -58,11 +58,11 @@ due actor came envelopes = due_from actor came 0 envelopes
 -- ---- fresh events, in their order
 
 -- a node's own event, as an event of the run
-abbrev pub event_of : ℕ → OwnEvent → Event
-event_of number own.Gather = event.Gather number
-event_of number (own.Exec batch) = event.Exec number batch
-event_of number (own.Release batch) = event.Release number batch
-event_of number (own.Serve item) = event.Serve number item
+abbrev pub event_of_node : ℕ → OwnEvent → Event
+event_of_node number own.Gather = event.Gather number
+event_of_node number (own.Exec batch) = event.Exec number batch
+event_of_node number (own.Release batch) = event.Release number batch
+event_of_node number (own.Serve item) = event.Serve number item
 
 abbrev pub fresh_send : World → ℕ → List Event
 fresh_send w lane = if is_some (client_step (w.clients lane) client.Send) then event.Send lane ∷ [] else []
@@ -74,7 +74,7 @@ fresh_gets w came lane = map (λ number. event.Get lane number) (due (Client lan
 -- what comes to a node, by envelope number, and then its own events
 abbrev pub fresh_at_node : World → (ℕ → Bool) → ℕ → List Event
 fresh_at_node w came number =
-    map (λ envelope. event.Deliver number envelope) (due (Node number) came w.envelopes) ++ map (λ e. event_of number e) (dues (w.nodes number))
+    map (λ envelope. event.Deliver number envelope) (due (Node number) came w.envelopes) ++ map (λ e. event_of_node number e) (dues (w.nodes number))
 
 abbrev pub fresh_start : World → List Event
 fresh_start w = if is_some (coord_step w.coord coord_event.Start) then event.Start ∷ [] else []

@@ -1,5 +1,5 @@
 -- What may be pushed after a list may be pushed after every longer one with no further event of its actor.
-use Rattle.std.proofs.Common.{◌≡◌, ⊎_elim, ℕ, zero, suc, Bool, true, false, cond, List, [], ◌∷◌, ◌++◌, length, filter, Option, Some, None, sym, refl, ap, ◌∙◌, subst, append_assoc, append-nil, eqb-true, eq-eqb}
+use Rattle.std.proofs.Common.{◌≡◌, ℕ, zero, suc, Bool, true, false, cond, List, [], ◌∷◌, ◌++◌, length, Option, Some, None, sym, refl, ap, ◌∙◌, subst, append_assoc, append-nil, eqb-true, eq-eqb}
 use Rattle.std.specs.Prelude.{slice_get, ◌==◌}
 use Rattle.std.proofs.lemmas.List.Elements.{filter-append}
 use Rattle.std.proofs.lemmas.Option.{none-some}
@@ -16,7 +16,7 @@ use Rattle.fal_story.specs.Actors.{actor_of, is_actor, own_events, number_of, ac
 use Rattle.fal_story.specs.Clusters.{is_lane, is_node}
 use Rattle.fal_story.specs.Machines.{Machine, ClientMachine, NodeMachine, CoordMachine, Made, only_where, client_made, node_made, machine_step, envelope_named}
 use Rattle.fal_story.specs.Pushing.{Sent, MayPush, outcome_with, sent_after, sent_then, sent_from, sent_by}
-use Rattle.fal_story.specs.Replay.{try_step, machine_after, replay_from, opened, replay}
+use Rattle.fal_story.specs.Replay.{try_step, machine_after, replay_from, opening_machine, replay}
 
 get_longer : (xs ys : List Envelope) (n : ℕ) (a : Envelope) → slice_get xs n ≡ Some a → slice_get (xs ++ ys) n ≡ Some a
 get_longer [] ys n a e = absurd (none-some a e)
@@ -153,7 +153,7 @@ lasts config xs ys e o may none =
     let own : own_events a (xs ++ ys) ≡ own_events a xs
     = filter-append (λ x. is_actor a (actor_of x)) xs ys ∙ (ap (λ z. own_events a xs ++ z) (none_own a ys none) ∙ append-nil (own_events a xs)) in
     let made : Made = (may.after, o) in
-    let first : Option Machine = Some (opened config a) in
+    let first : Option Machine = Some (opening_machine config a) in
     let longer : try_step config (sent ++ grows.rest) (replay_from config (sent ++ grows.rest) first (own_events a xs)) e ≡ Some made
     = elim (replay_from config sent first (own_events a xs))
     as (λ m. replay_from config sent first (own_events a xs) ≡ m → try_step config sent m e ≡ Some made

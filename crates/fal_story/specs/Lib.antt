@@ -9,5 +9,6 @@ pub mod Pushing
 pub mod Replay
 pub mod Rooms
 pub mod Run
+pub mod Sending
 pub mod Told
 pub mod World

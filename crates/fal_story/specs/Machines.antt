@@ -1,5 +1,5 @@
 -- The event table: what an actor of a run makes of an event of its own, given the envelope that the event names. All else that is said of events is said by it.
-use Rattle.std.specs.Prelude.{ℕ, Bool, true, false, List, map, Option, None, Some, slice_get}
+use Rattle.std.specs.Prelude.{Bool, true, false, List, map, Option, None, Some, slice_get}
 use Rattle.fal_base.specs.declared.call.Config.{Config}
 use Rattle.fal_base.specs.declared.event.Envelope.{Envelope}
 use Rattle.fal_base.specs.declared.event.Event.{Event}
@@ -10,8 +10,8 @@ use Rattle.fal_client.specs.declared.event.ClientEvent.TheVariants as client
 use Rattle.fal_client.specs.State.{ClientState, Work as ClientWork}
 use Rattle.fal_client.specs.Step.{client_step}
 use Rattle.fal_coord.specs.declared.event.CoordEvent.TheVariants as coord_event
-use Rattle.fal_coord.specs.State.{CoordState}
-use Rattle.fal_coord.specs.Step.{Work as CoordWork, coord_step}
+use Rattle.fal_coord.specs.State.{CoordState, Work as CoordWork}
+use Rattle.fal_coord.specs.Step.{coord_step}
 use Rattle.fal_node.specs.declared.event.NodeEvent.TheVariants as node
 use Rattle.fal_node.specs.Letters.{Work}
 use Rattle.fal_node.specs.State.{NodeState}
@@ -89,7 +89,7 @@ node_made (Some work) = Some (NodeMachine work.node, record { sent = map output_
 
 abbrev pub coord_made : Option CoordWork → Option Made
 coord_made None = None
-coord_made (Some work) = Some (CoordMachine work.coord, record { sent = work.sent; notes = work.notes })
+coord_made (Some work) = Some (CoordMachine work.coord, record { sent = map output_of work.sent; notes = work.notes })
 
 -- the actor after the event, given the envelope that the event names, and what it makes; none where the event is not its own, or not enabled
 abbrev pub machine_step : Config → Machine → Event → Option Envelope → Option Made

@@ -26,12 +26,12 @@ replay_from config sent m [] = m
 replay_from config sent m (e ∷ es) = replay_from config sent (machine_after (try_step config sent m e)) es
 
 -- the actor before its first event
-abbrev pub opened : Config → Actor → Machine
-opened config actor = machine_in (opening_world config) actor
+abbrev pub opening_machine : Config → Actor → Machine
+opening_machine config actor = machine_in (opening_world config) actor
 
 -- the actor after these events, which are its own, each given the envelope that it names; none where one of them was not enabled
 unfoldable pub replay : Config → List Envelope → Actor → List Event → Option Machine
-replay config sent actor own = replay_from config sent (Some (opened config actor)) own
+replay config sent actor own = replay_from config sent (Some (opening_machine config actor)) own
 
 -- each actor of a run is the replay of its own events
 abbrev pub IsReplayed : Config → List Event → Type 0

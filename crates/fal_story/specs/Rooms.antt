@@ -4,7 +4,7 @@ use Rattle.fal_base.specs.declared.event.Note.{Note}
 use Rattle.fal_base.specs.declared.event.Note.TheVariants as note
 use Rattle.fal_base.specs.declared.event.Outputs.{Outputs}
 use Rattle.fal_story.specs.Run.{run, commits_at}
-use Rattle.fal_story.specs.Told.{Seen}
+use Rattle.fal_story.specs.Told.{SeenBook}
 
 -- the note is of a commit
 abbrev pub is_commit_note : Note → Bool
@@ -16,7 +16,7 @@ is_commit_note (note.Stale lane seq old new) = false
 is_commit_note (note.Answered lane seq point reply) = false
 
 -- there is room for one event, its records and its notes; with it there are fewer than 2^63 events, and fewer than 2^63 commits
-pub record HasRoom (book : Seen) (outputs : Outputs) : Type 0 where
+pub record HasBookRoom (book : SeenBook) (outputs : Outputs) : Type 0 where
   pub events : 1 ≤ book.room.events
   pub sent : length outputs.sent ≤ book.room.sent
   pub entries : length outputs.notes ≤ book.room.entries

@@ -103,3 +103,7 @@ Makes config world event sent notes = IsSomeAnd world (λ w. IsSomeAnd (deed con
 -- the event is enabled after these events, and makes these outputs
 abbrev pub Follows : Config → List Event → Event → List Output → List Note → Type 0
 Follows config events event sent notes = Makes config (run config events) event sent notes
+
+-- the event is enabled after these events
+abbrev pub IsEnabled : Config → List Event → Event → Type 0
+IsEnabled config events event = IsSomeAnd (run config events) (λ w. IsSome (deed config w event))

@@ -14,15 +14,15 @@ pub record Told : Type 0 where
   pub events : List Event
 
 -- how many more events, envelopes and entries a book takes before it needs memory
-pub record Room : Type 0 where
+pub record BookRoom : Type 0 where
   pub events : ℕ
   pub sent : ℕ
   pub entries : ℕ
 
 -- a book: what it tells, and its room
-pub record Seen : Type 0 where
+pub record SeenBook : Type 0 where
   pub told : Told
-  pub room : Room
+  pub room : BookRoom
 
 -- the run is legal, and these are its envelopes and entries, and so many its commits and events
 abbrev pub HasAt : Option World → List Envelope → List Entry → ℕ → ℕ → Type 0

@@ -1,7 +1,7 @@
 ghost use Rattle.std.specs.Prelude.{◌≡◌, ◌∷◌, ◌++◌, [], ◌<◌, ◌^◌, OnOk, OnErr, IfOk, length};
 ghost use Rattle.fal_story.specs.Actors.{actor_of as actor_told};
 ghost use Rattle.fal_story.specs.Clusters.{IsCluster};
-ghost use Rattle.fal_story.specs.Rooms.{HasRoom};
+ghost use Rattle.fal_story.specs.Rooms.{HasBookRoom};
 ghost use Rattle.fal_story.specs.Run.{Follows, IsLegal, commits_at, envelopes_at, run, transcript};
 ghost use Rattle.fal_story.specs.Told.{Told};
 
@@ -27,9 +27,9 @@ pub struct Book {
 
 impl Model for Book {
     ghost use Rattle.std.specs.Prelude.{◌-◌, length, vec_capacity};
-    ghost use Rattle.fal_story.specs.Told.{Seen, IsBook};
+    ghost use Rattle.fal_story.specs.Told.{SeenBook, IsBook};
 
-    ghost Value = { Seen };
+    ghost Value = { SeenBook };
 
     ghost view = { λ b. record {
       told = record { config = b.config; events = b.events.items };
@@ -150,7 +150,7 @@ impl Book {
     // Makes room for one more event with these outputs, or answers want of memory.
     pub(crate) fn make_room(&mut self, outputs: &Outputs) -> Result<(), OutOfMemory>
         ensures same { self.new.told ≡ self.old.told }
-        ensures room { OnOk result (HasRoom self.new outputs.now) }
+        ensures room { OnOk result (HasBookRoom self.new outputs.now) }
     {
         let made = commits_in(outputs.notes.as_slice());
         if self.events.len() as u64 >= LIMIT - 1 || made >= LIMIT - self.commits {
@@ -165,7 +165,7 @@ impl Book {
     // One more event, which is enabled after this run, with the records and notes that it makes. There is room for it.
     pub(crate) fn put(&mut self, event: Event, outputs: Outputs)
         requires follows { Follows self.old.told.config self.old.told.events event outputs.sent outputs.notes }
-        requires room { HasRoom self.old outputs }
+        requires room { HasBookRoom self.old outputs }
         ensures { self.new.told ≡ record self.old.told { events = self.old.told.events ++ event ∷ [] } }
     {
         let number = self.events.len() as u64;

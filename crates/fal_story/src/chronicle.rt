@@ -10,7 +10,7 @@ impl Chronicle for Book {
     ghost use Rattle.fal_story.specs.Actors.{actor_number};
     ghost use Rattle.fal_story.specs.Arriving.{Arrives};
     ghost use Rattle.fal_story.specs.Pushing.{MayPush};
-    ghost use Rattle.fal_story.specs.Rooms.{HasRoom};
+    ghost use Rattle.fal_story.specs.Rooms.{HasBookRoom};
     ghost use Rattle.fal_story.specs.Lasting.{lasts};
 
     type Event = Event;
@@ -29,7 +29,7 @@ impl Chronicle for Book {
 
     ghost may_push = { MayPush };
 
-    ghost has_room = { HasRoom };
+    ghost has_room = { HasBookRoom };
 
     ghost inbox_gives = { Arrives };
 

@@ -1,8 +1,10 @@
 ghost use Rattle.std.specs.Prelude.{◌≡◌, ◌≤◌, ◌↔◌, IsTrue, None, length, nat_le, sum_by};
 ghost use Rattle.std.specs.List.{All, list_all};
 ghost use Rattle.fal_base.specs.Paths.{is_dot as is_dot_name};
-ghost use Rattle.fal_base.specs.OpPaths.{bad_path, fault_of};
-ghost use Rattle.fal_story.specs.Clusters.{IsCall, IsCluster, is_served};
+ghost use Rattle.fal_base.specs.declared.call.Call.{Call as CallSeen};
+ghost use Rattle.fal_base.specs.OpPaths.{bad_path, fault_of, paths_of};
+ghost use Rattle.fal_base.specs.PathArgs.{IsRead};
+ghost use Rattle.fal_story.specs.Clusters.{IsCall, IsCluster, IsCallInRange, is_served};
 ghost use Rattle.fal_base.specs.Names.{is_name as is_name_of};
 ghost use Rattle.fal_base.specs.Paths.{path_bytes};
 ghost use Rattle.fal_wire.specs.Names.{path_arg_field, path_field};
@@ -66,19 +68,19 @@ fn is_path(names: &[Name]) -> bool
     is_short(names) && are_names(names)
 }
 
-// Whether a record can hold the path, where it is good, and the rest of the call too.
+// Whether a bad path has the fault of its bytes, and a record can hold a good one and the rest of the call.
 fn is_held(path: &PathArg, rest: bool) -> bool
-    ensures { IsTrue result ↔ (fault_of path.now ≡ None → path_arg_field.Fits path.now × IsTrue rest) }
+    ensures { IsTrue result ↔ IsRead path.now × (fault_of path.now ≡ None → path_arg_field.Fits path.now × IsTrue rest) }
 {
     match path {
         PathArg::Good(path) => rest && is_path(path.names()),
-        PathArg::Bad { .. } => true,
+        PathArg::Bad { .. } => path.is_read(),
     }
 }
 
-// Whether nodes alone answer the operation, and a record can hold it where its path is good.
+// Whether nodes alone answer the operation, a bad path has the fault of its bytes, and a record can hold the operation where its path is good.
 fn is_op(op: &Op) -> bool
-    ensures { IsTrue result ↔ IsTrue (is_served op.now) × (bad_path op.now ≡ None → op_field.Fits op.now) }
+    ensures { IsTrue result ↔ IsTrue (is_served op.now) × All IsRead (paths_of op.now) × (bad_path op.now ≡ None → op_field.Fits op.now) }
 {
     match op {
         Op::Mkdir { path, mode } => is_held(path, *mode < 512),
@@ -106,6 +108,11 @@ fn is_call(call: &Call) -> bool
     } = call.cred;
     is_op(&call.op)
 }
+
+/// A call with a served operation may stand in a cluster where its path and its numbers are in range.
+pub fn calls_in_range_may_run()
+    ensures { (call : CallSeen) → IsCallInRange call → IsCall call }
+{}
 
 fn are_calls(calls: &[Call]) -> bool
     ensures { IsTrue result ↔ All IsCall calls.now }
@@ -141,8 +148,8 @@ fn is_few(count: usize) -> bool
 }
 
 /// Whether the cluster may run: 1 to 16 nodes, 1 to 16 lanes, batches of 1 to 64 calls and at most 10,000 calls, each a mkdir, create, stat,
-/// access, truncate or unlink that a record can hold where its path is good (a mode of nine bits, a `want` of three, a size below 2^63, and
-/// at most 4,095 bytes of names, each with the slash before it). Takes no memory.
+/// access, truncate or unlink. A bad path has the fault of its bytes, and where the path is good a record can hold the call (a mode of nine
+/// bits, a `want` of three, a size below 2^63, and at most 4,095 bytes of names, each with the slash before it). Takes no memory.
 pub fn may_run(config: &Config) -> bool
     ensures { IsTrue result ↔ IsCluster config.now }
 {

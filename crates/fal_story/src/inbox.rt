@@ -1,7 +1,7 @@
 //! What an actor is told of the envelopes that were sent to it.
 ghost use Rattle.std.specs.Prelude.{◌≡◌, ℕ, ◌+◌, ◌<◌, ◌≤◌, ◌^◌, [], ◌++◌, length, drop, OnOk, OnErr, IfOk};
 ghost use Rattle.fal_story.specs.Actors.{number_of as number_told};
-ghost use Rattle.fal_story.specs.Arriving.{arrived, arrived_next, arrives, AreInOrder};
+ghost use Rattle.fal_story.specs.Arriving.{arrived, arrived_next, arrives, AreSentInOrder};
 
 use fal_base::{Actor, Duplicate, Envelope, OutOfMemory};
 use std::alloc::Global;
@@ -56,7 +56,7 @@ fn is_for(envelope: &Envelope, actor: u8, from: u64) -> bool
 
 // The place of the first envelope that was sent by this event or a later one, by binary search.
 fn place_from(sent: &[Envelope], from: u64) -> usize
-    requires { AreInOrder sent.now }
+    requires { AreSentInOrder sent.now }
     ensures within { result ≤ length sent.now }
     ensures past { (number : ℕ) → arrived number from sent.now ≡ arrived_next result number from (drop result sent.now) }
 {
@@ -123,7 +123,7 @@ impl Inbox {
         from: u64,
         sent: &[Envelope],
     ) -> Result<(), OutOfMemory>
-        requires { AreInOrder sent.now }
+        requires { AreSentInOrder sent.now }
         ensures ok { OnOk result (self.new ≡ self.old ++ arrived actor from sent.now) }
         ensures err { OnErr result (self.new ≡ self.old) }
     {

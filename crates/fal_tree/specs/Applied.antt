@@ -9,8 +9,8 @@ use Rattle.fal_base.specs.Change.{makes}
 use Rattle.fal_tree.specs.declared.fault.ApplyFault.{ApplyFault}
 use Rattle.fal_tree.specs.declared.fault.ApplyFault.TheVariants.{NoCommit, NotFresh}
 
-abbrev pub has_number : Tree → ℕ → Bool
-has_number tree ino = list_any (λ e. e.1.ino == ino) tree
+abbrev pub holds_number : Tree → ℕ → Bool
+holds_number tree ino = list_any (λ e. e.1.ino == ino) tree
 
 -- whether the operation brings a row with a number of its own
 abbrev pub brings_row : Op → Bool
@@ -19,7 +19,7 @@ brings_row (op.Create path mode) = true
 brings_row other = false
 
 abbrev pub is_fresh : Tree → Op → ℕ → Bool
-is_fresh tree op ino = not (brings_row op && (ino == 0 || has_number tree ino))
+is_fresh tree op ino = not (brings_row op && (ino == 0 || holds_number tree ino))
 
 abbrev pub applied : Tree → Cred → Op → ℕ → Result (Unit {0}) ApplyFault
 applied tree cred op ino = if not (makes tree cred op) then Err NoCommit else (if is_fresh tree op ino then Ok tt else Err NotFresh)

@@ -24,9 +24,9 @@ ended_at tree (Ready parent passed last) = row_or (row_at tree last)
 abbrev pub inode_at : Tree → Cred → List (List ℕ) → Result Inode Errno
 inode_at tree cred names = ended_at tree (walk tree cred names)
 
-abbrev pub told : Result Inode Errno → (Inode → Reply) → Reply
-told (Ok inode) go = go inode
-told (Err errno) go = Fail errno
+abbrev pub reply_found : Result Inode Errno → (Inode → Reply) → Reply
+reply_found (Ok inode) go = go inode
+reply_found (Err errno) go = Fail errno
 
 -- a rename after both walks
 abbrev pub move_answer : Tree → Cred → Option Inode → Key → Option Inode → List ℕ → Key → Reply

@@ -1,8 +1,8 @@
 ghost use Rattle.std.specs.Prelude.{◌≡◌, not, IfOk, OnOk, OnErr};
 ghost use Rattle.fal_base.specs.Answer.{answer as answer_of};
 ghost use Rattle.fal_base.specs.Tree.{with_row, without_row, same_key};
-ghost use Rattle.fal_base.specs.Change.{makes as makes_of, changes as changes_of, is_fine as is_fine_of, last_key as last_key_of, new_row as new_row_of, update, move as move_of, change as change_of};
-ghost use Rattle.fal_tree.specs.Applied.{has_number as has_number_of, brings_row as brings_row_of, is_fresh as is_fresh_of};
+ghost use Rattle.fal_base.specs.Change.{makes as makes_of, changes as changes_of, is_fine as is_fine_of, last_key_of as last_key_of, new_row as new_row_of, update, move as move_of, change as change_of};
+ghost use Rattle.fal_tree.specs.Applied.{holds_number as has_number_of, brings_row as brings_row_of, is_fresh as is_fresh_of};
 ghost use Rattle.fal_tree.specs.Refused.{IsOfTree};
 
 use crate::reply::reply_to;

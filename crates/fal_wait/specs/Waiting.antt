@@ -47,8 +47,8 @@ abbrev pub free_tickets : WaitList → List ℕ
 free_tickets list = map (λ w. w.ticket) (filter (λ w. is_none w.fetch) list.calls)
 
 -- the call with this ticket
-abbrev pub call_of : WaitList → ℕ → Option CallRec
-call_of list ticket = option_map (λ w. w.call) (find (λ w. w.ticket == ticket) list.calls)
+abbrev pub call_with_ticket : WaitList → ℕ → Option CallRec
+call_with_ticket list ticket = option_map (λ w. w.call) (find (λ w. w.ticket == ticket) list.calls)
 
 -- the pending fetch with this number
 abbrev pub fetch_of : WaitList → ℕ → Option PendingFetch

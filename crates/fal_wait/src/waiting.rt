@@ -1,7 +1,7 @@
 ghost use Rattle.std.specs.Prelude.{◌≡◌, ◌≤◌, ◌<◌, ◌+◌, ◌-◌, ◌^◌, ◌==◌, IfOk, OnOk, length, slice_get};
 ghost use Rattle.std.specs.Option.{option_copied, option_map};
 ghost use Rattle.fal_wait.specs.Lists.{IsPartOf};
-ghost use Rattle.fal_wait.specs.Waiting.{no_calls, IsNumbered, count_to, free_tickets, call_of, fetch_of, parts_of, told_by, is_new, after_admit, admit_answer, without_call, after_open, after_settle, after_cancel};
+ghost use Rattle.fal_wait.specs.Waiting.{no_calls, IsNumbered, count_to, free_tickets, call_with_ticket, fetch_of, parts_of, told_by, is_new, after_admit, admit_answer, without_call, after_open, after_settle, after_cancel};
 
 use crate::admit::Admit;
 use crate::pending_fetch::{Fetch, PendingFetch, take_fetch};
@@ -152,7 +152,7 @@ impl Waiting {
 
     /// The call with this ticket. None exactly where it is not there.
     pub fn call(&self, ticket: u64) -> Option<&CallRec>
-        ensures { option_copied result ≡ call_of self.now.list ticket }
+        ensures { option_copied result ≡ call_with_ticket self.now.list ticket }
     {
         match self.calls.iter().find(|waiting| waiting.ticket == ticket) {
             None => None,
@@ -169,7 +169,7 @@ impl Waiting {
 
     /// Takes the call with this ticket out. None exactly where it is not there. A pending fetch keeps the waiters that it was opened with.
     pub fn remove(&mut self, ticket: u64) -> Option<CallRec>
-        ensures call { result ≡ call_of self.old.list ticket }
+        ensures call { result ≡ call_with_ticket self.old.list ticket }
         ensures list { self.new.list ≡ without_call self.old.list ticket }
         ensures room { self.old.spare ≤ self.new.spare }
     {

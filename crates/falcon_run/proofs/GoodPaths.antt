@@ -1,13 +1,12 @@
 -- The names of a path that was read can stand in a record.
 use Rattle.std.proofs.Common.{◌≡◌, ℕ, ◌+◌, ◌<◌, ◌≤◌, nat_lt, Bool, true, false, not, ◌||◌, ◌&&◌, cond, List, [], ◌∷◌, length, filter, Ok, Err, refl, ap, ◌∙◌, subst, arith}
 use Rattle.std.specs.Prelude.{◌==◌, nat_le, is_ok}
-use Rattle.std.specs.List.{list_any, list_all, slice_split, onto_first, starts_with}
+use Rattle.std.specs.List.{AllByRecursion, list_any, list_all, slice_split, onto_first, starts_with}
 use Rattle.std.proofs.lemmas.Bool.Decides.{nat_tests}
 use Rattle.std.proofs.lemmas.List.Sums.{sum_by-cons}
 use Rattle.fal_base.specs.declared.name.NameFault.TheVariants as name
 use Rattle.fal_base.specs.declared.path.PathFault.TheVariants.{Relative, TooLong, NameTooLong, Dot, ZeroByte}
 use Rattle.fal_base.specs.Paths.{breaks, components, is_dot, path_of}
-use Rattle.fal_story.proofs.Lists.Each.{Each}
 use Rattle.fal_base.specs.Names.{is_name}
 use Rattle.fal_base.specs.Paths.{path_bytes}
 
@@ -17,45 +16,45 @@ neither : (a b : Bool) → (a || b) ≡ false → (a ≡ false) × (b ≡ false)
 neither true b e = absurd (cc)
 neither false b e = (refl, e)
 
-none_of : {A : Type 0} (test : A → Bool) (xs : List A) → list_any test xs ≡ false → Each (λ x. test x ≡ false) xs
+none_of : {A : Type 0} (test : A → Bool) (xs : List A) → list_any test xs ≡ false → AllByRecursion (λ x. test x ≡ false) xs
 none_of test [] e = tt
 none_of test (x ∷ xs) e = let both = neither (test x) (list_any test xs) e in (both.0, none_of test xs both.1)
 
-each_kept : {A : Type 0} (P : A → Type 0) (test : A → Bool) (xs : List A) → Each P xs → Each (λ x. P x × (test x ≡ true)) (filter test xs)
+each_kept : {A : Type 0} (P : A → Type 0) (test : A → Bool) (xs : List A) → AllByRecursion P xs → AllByRecursion (λ x. P x × (test x ≡ true)) (filter test xs)
 each_kept P test [] each = tt
 each_kept P test (x ∷ xs) each =
-    elim (test x) as (λ b. test x ≡ b → Each (λ y. P y × (test y ≡ true)) (cond b (x ∷ filter test xs) (filter test xs))) [
+    elim (test x) as (λ b. test x ≡ b → AllByRecursion (λ y. P y × (test y ≡ true)) (cond b (x ∷ filter test xs) (filter test xs))) [
       | true ↦ λ is. ((each.0, is), each_kept P test xs each.1)
       | false ↦ λ is. each_kept P test xs each.1
     ] refl
 
-each_of_both : {A : Type 0} (P Q : A → Type 0) (xs : List A) → Each P xs → Each Q xs → Each (λ x. P x × Q x) xs
+each_of_both : {A : Type 0} (P Q : A → Type 0) (xs : List A) → AllByRecursion P xs → AllByRecursion Q xs → AllByRecursion (λ x. P x × Q x) xs
 each_of_both P Q [] h k = tt
 each_of_both P Q (x ∷ xs) h k = ((h.0, k.0), each_of_both P Q xs h.1 k.1)
 
 -- ---- the parts between slashes
 
-onto_none : (test : ℕ → Bool) (x : ℕ) (parts : List (List ℕ)) → test x ≡ false → Each (λ part. list_any test part ≡ false) parts → Each (λ part. list_any test part ≡ false) (onto_first x parts)
+onto_none : (test : ℕ → Bool) (x : ℕ) (parts : List (List ℕ)) → test x ≡ false → AllByRecursion (λ part. list_any test part ≡ false) parts → AllByRecursion (λ part. list_any test part ≡ false) (onto_first x parts)
 onto_none test x [] is each = (ap (λ b. b || false) is, tt)
 onto_none test x (part ∷ parts) is each = (ap (λ b. b || list_any test part) is ∙ each.0, each.1)
 
 -- no part has a byte at which it was cut
-parts_uncut : (cut : ℕ → Bool) (bytes : List ℕ) → Each (λ part. list_any cut part ≡ false) (slice_split cut bytes)
+parts_uncut : (cut : ℕ → Bool) (bytes : List ℕ) → AllByRecursion (λ part. list_any cut part ≡ false) (slice_split cut bytes)
 parts_uncut cut [] = (refl, tt)
 parts_uncut cut (x ∷ bytes) =
     let rest = parts_uncut cut bytes in
-    elim (cut x) as (λ b. cut x ≡ b → Each (λ part. list_any cut part ≡ false) (cond b ([] ∷ slice_split cut bytes) (onto_first x (slice_split cut bytes)))) [
+    elim (cut x) as (λ b. cut x ≡ b → AllByRecursion (λ part. list_any cut part ≡ false) (cond b ([] ∷ slice_split cut bytes) (onto_first x (slice_split cut bytes)))) [
       | true ↦ λ is. (refl, rest)
       | false ↦ λ is. onto_none cut x (slice_split cut bytes) is rest
     ] refl
 
 -- no part has a byte that the whole has not
-parts_without : (cut test : ℕ → Bool) (bytes : List ℕ) → list_any test bytes ≡ false → Each (λ part. list_any test part ≡ false) (slice_split cut bytes)
+parts_without : (cut test : ℕ → Bool) (bytes : List ℕ) → list_any test bytes ≡ false → AllByRecursion (λ part. list_any test part ≡ false) (slice_split cut bytes)
 parts_without cut test [] none = (refl, tt)
 parts_without cut test (x ∷ bytes) none =
     let both = neither (test x) (list_any test bytes) none in
     let rest = parts_without cut test bytes both.1 in
-    elim (cut x) as (λ b. Each (λ part. list_any test part ≡ false) (cond b ([] ∷ slice_split cut bytes) (onto_first x (slice_split cut bytes)))) [
+    elim (cut x) as (λ b. AllByRecursion (λ part. list_any test part ≡ false) (cond b ([] ∷ slice_split cut bytes) (onto_first x (slice_split cut bytes)))) [
       | true ↦ (refl, rest)
       | false ↦ onto_none test x (slice_split cut bytes) both.0 rest
     ]
@@ -147,7 +146,7 @@ IsPart part = ((list_any (λ b. b == 47) part ≡ false) × (list_any (λ b. b =
 abbrev IsShort : List ℕ → Type 0
 IsShort part = (nat_lt 255 (length part) ≡ false) × (is_dot part ≡ false)
 
-all_names : (names : List (List ℕ)) → Each IsPart names → Each IsShort names → list_all is_name names ≡ true
+all_names : (names : List (List ℕ)) → AllByRecursion IsPart names → AllByRecursion IsShort names → list_all is_name names ≡ true
 unfolding is_name
 all_names [] parts short = refl
 all_names (name ∷ names) parts short =

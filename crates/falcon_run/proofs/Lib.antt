@@ -4,7 +4,6 @@ pub mod InRange
 pub mod OpeningServed
 pub mod Owed
 pub mod ScriptLanes
-pub mod SendCounts
 pub mod Serials
 pub mod ServedLines
 pub mod Wants

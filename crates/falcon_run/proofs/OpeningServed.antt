@@ -9,7 +9,7 @@ use Rattle.falcon_run.specs.Serving.{AreServed}
 
 nothing_yet : (config : Config) → AreServed config [] []
 unfolding run came opening_node
-nothing_yet config = record { serial = refl; quiet = record { all_came = λ number envelope is. absurd (cc); nodes = λ number. refl; coord = refl }; answered = λ j lane seq is. absurd (cc) }
+nothing_yet config = record { serial = refl; sent = λ lane. refl; quiet = record { all_came = λ number envelope is. absurd (cc); nodes = λ number. refl; coord = refl }; answered = λ j lane seq is. absurd (cc) }
 
 -- no events serve no calls
 pub none_served : (config : Config) (events : List Event) → events ≡ [] → AreServed config [] events

@@ -8,7 +8,7 @@ use Rattle.fal_script.specs.Script.{script_of}
 use Rattle.falcon_run.specs.declared.reading.Unread.{Unread}
 use Rattle.falcon_run.specs.declared.reading.Unread.TheVariants.{ReadFault, TooLarge, NoScript, OutOfMemory}
 use Rattle.falcon_run.specs.Headline.{HasTooMany, owed, owed_script}
-use Rattle.falcon_run.specs.Reading.{Gives, OwedFor}
+use Rattle.falcon_run.specs.Reading.{GivesScript, OwedFor}
 
 below : (a b : ℕ) → a < b → nat_lt a b ≡ true
 below a b lt = grind (arith, nat_tests)
@@ -51,15 +51,15 @@ large_owed bytes taken rest consumed (inr whole) =
     let same = all_taken bytes taken rest consumed whole.0 in
     ap owed same ∙ too_many (nat_lt 16777216 (length taken)) (script_of taken) (ap owed_script whole.1.1 ∙ ap (λ b. cond b 7 0) (below 10000 (length whole.1.0.lines) whole.1.2))
 
-pub gives_owed : (bytes : List ℕ) (rest : Option (List ℕ)) (before now : ℕ) (result : Result Script Unread) → Gives (Some bytes) rest before now result → (Rose before now → ⊥) → OwedFor result bytes
+pub gives_owed : (bytes : List ℕ) (rest : Option (List ℕ)) (before now : ℕ) (result : Result Script Unread) → GivesScript (Some bytes) rest before now result → (Rose before now → ⊥) → OwedFor result bytes
 gives_owed bytes rest before now (Ok script) is calm = script_owed bytes is.0 rest script is.1 is.2 is.3 is.4 is.5
 gives_owed bytes rest before now (Err ReadFault) is calm = calm is.0
 gives_owed bytes rest before now (Err TooLarge) is calm = large_owed bytes is.0 rest is.1 is.2
 gives_owed bytes rest before now (Err NoScript) is calm = none_owed bytes is.0 rest is.1 is.2 is.3 is.4
 gives_owed bytes rest before now (Err OutOfMemory) is calm = tt
 
-pub told : (bytes : List ℕ) (left rest : Option (List ℕ)) (before now : ℕ) (result : Result Script Unread) → left ≡ Some bytes → Gives left rest before now result → (Rose before now → ⊥) → OwedFor result bytes
-told bytes left rest before now result tells is calm = gives_owed bytes rest before now result (subst (λ l. Gives l rest before now result) tells is) calm
+pub told : (bytes : List ℕ) (left rest : Option (List ℕ)) (before now : ℕ) (result : Result Script Unread) → left ≡ Some bytes → GivesScript left rest before now result → (Rose before now → ⊥) → OwedFor result bytes
+told bytes left rest before now result tells is calm = gives_owed bytes rest before now result (subst (λ l. GivesScript l rest before now result) tells is) calm
 
 -- nothing was appended
 pub nothing_appended : (held : Option (List ℕ)) → Appends held held []

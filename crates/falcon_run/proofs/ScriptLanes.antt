@@ -7,13 +7,13 @@ use Rattle.std.proofs.lemmas.List.Sums.{sum_by-cons}
 use Rattle.std.proofs.lemmas.Option.{slice_get_past}
 use Rattle.std.proofs.lemmas.List.FromFn.{length-map-range_with_len}
 use Rattle.fal_base.specs.declared.call.Call.{Call}
-use Rattle.fal_script.specs.Configs.{lane_calls}
+use Rattle.fal_script.specs.Configs.{lane_calls, order_of}
 use Rattle.fal_script.specs.Ranges.{IsSpelledScript}
 use Rattle.fal_script.specs.declared.script.Script.{Script}
 use Rattle.fal_script.specs.declared.script.ScriptCall.{ScriptCall}
 use Rattle.fal_story.specs.Clusters.{calls_of_lane}
 use Rattle.falcon_run.specs.Headline.{cluster_of}
-use Rattle.falcon_run.specs.Serial.{counts, order_of}
+use Rattle.falcon_run.specs.Serial.{counts}
 use Rattle.falcon_run.specs.Serving.{HasCallsFor}
 
 -- ---- one lane

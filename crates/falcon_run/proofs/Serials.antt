@@ -1,42 +1,38 @@
 -- Serial orders that grow by a call at their end.
 use Rattle.std.proofs.Common.{◌≡◌, ℕ, zero, suc, ◌+◌, ◌<◌, cond, List, [], ◌∷◌, ◌++◌, take, Some, refl, sym, ap, ◌∙◌, subst, arith, append_assoc, append-nil, eq-eqb}
-use Rattle.std.specs.Prelude.{slice_get}
+use Rattle.std.specs.Prelude.{slice_get, ◌==◌}
 use Rattle.std.proofs.lemmas.Option.{same_Some}
 use Rattle.fal_base.specs.declared.call.Config.{Config}
 use Rattle.fal_base.specs.declared.event.Event.{Event}
 use Rattle.fal_base.specs.declared.event.Event.TheVariants.{Send}
-use Rattle.fal_script.specs.declared.script.ScriptCall.{ScriptCall}
+use Rattle.fal_alone.specs.Extends.{DrainsTo}
 use Rattle.fal_story.specs.Fresh.{IsDrained}
-use Rattle.falcon_run.specs.Serial.{IsSerialFrom, IsSerialRun, counts, order_of, calls_sent_by, calls_sent}
+use Rattle.fal_story.specs.Sending.{calls_sent}
+use Rattle.fal_story.specs.Told.{Told}
+use Rattle.falcon_run.specs.Serial.{IsSerialFrom, IsSerialRun, counts}
 use Rattle.falcon_run.specs.Serving.{IsServedAlone}
 
 -- ---- how many calls are sent
 
-pub sends_join : (lane : ℕ) (events more : List Event) → calls_sent lane (events ++ more) ≡ calls_sent lane events + calls_sent lane more
+sends_join : (lane : ℕ) (events more : List Event) → calls_sent lane (events ++ more) ≡ calls_sent lane events + calls_sent lane more
 sends_join lane [] more = omega arith
 sends_join lane (event ∷ events) more = let rest = sends_join lane events more in omega arith
 
--- events of which none is a Send
-pub none_sent : (lane : ℕ) (events : List Event) → ((k : ℕ) (event : Event) → slice_get events k ≡ Some event → calls_sent_by lane event ≡ 0) → calls_sent lane events ≡ 0
-none_sent lane [] each = refl
-none_sent lane (event ∷ events) each = let first = each 0 event refl in let rest = none_sent lane events (λ k e at. each (suc k) e at) in omega arith
+-- a Send and then a drain are one call more of the lane, and of no other
+pub one_sent : (before sent after : Told) (lane other : ℕ) → sent ≡ record before { events = before.events ++ Send lane ∷ [] } → ((config : Config) (events more : List Event) → IsDrained config events more → calls_sent other more ≡ 0)
+    → DrainsTo sent after → calls_sent other after.events ≡ calls_sent other before.events + cond (lane == other) 1 0
+one_sent before sent after lane other is drained drains =
+    let more = drains.0 in
+    let split : calls_sent other after.events ≡ calls_sent other (sent.events ++ more) = ap (calls_sent other) drains.1.0 in
+    let joined = sends_join other sent.events more in
+    let one : calls_sent other sent.events ≡ calls_sent other (before.events ++ Send lane ∷ []) = ap (λ (told : Told). calls_sent other told.events) is in
+    let parts = sends_join other before.events (Send lane ∷ []) in
+    let none = drained sent.config sent.events more drains.1.1 in
+    omega arith
 
 pub counts_join : (lane : ℕ) (lanes more : List ℕ) → counts lane (lanes ++ more) ≡ counts lane lanes + counts lane more
 counts_join lane [] more = omega arith
 counts_join lane (other ∷ lanes) more = let rest = counts_join lane lanes more in omega arith
-
--- in a serial order each lane sends as many calls as it stands among the lanes
-pub serial_sends : (config : Config) → ((events more : List Event) → IsDrained config events more → (lane : ℕ) → calls_sent lane more ≡ 0) → (before : List Event) (lanes : List ℕ) (rest : List Event) (lane : ℕ)
-    → IsSerialFrom config before lanes rest → calls_sent lane rest ≡ counts lane lanes
-serial_sends config quiet before [] rest lane is = ap (calls_sent lane) is
-serial_sends config quiet before (l ∷ lanes) rest lane is =
-    let more = is.0 in
-    let later = is.1.0 in
-    let split : calls_sent lane rest ≡ calls_sent_by lane (Send l) + calls_sent lane (more ++ later) = ap (calls_sent lane) is.1.1.0 in
-    let parts = sends_join lane more later in
-    let none = quiet (before ++ Send l ∷ []) more is.1.1.1 lane in
-    let others = serial_sends config quiet (before ++ Send l ∷ more) lanes later lane is.1.1.2 in
-    omega arith
 
 -- ---- one more call
 
@@ -72,12 +68,12 @@ pub serial_more : (config : Config) (lanes : List ℕ) (before after : List Even
 serial_more config lanes before after lane serial served =
     subst (λ (es : List Event). IsSerialRun config (lanes ++ lane ∷ []) es) (sym served.1.0) (one_more config [] lanes before lane served.0 serial served.1.1)
 
--- ---- the lines of a script
+-- ---- the lanes of the calls
 
--- a line that is still to come counts
-pub line_left : (lines : List ScriptCall) (k : ℕ) (line : ScriptCall) → slice_get lines k ≡ Some line → counts line.lane (order_of (take k lines)) < counts line.lane (order_of lines)
-line_left [] k line at = absurd (cc)
-line_left (first ∷ lines) zero line at =
-    let same : first.lane ≡ line.lane = ap (λ (l : ScriptCall). l.lane) (same_Some first line at) in
-    subst (λ b. 0 < cond b 1 0 + counts line.lane (order_of lines)) (sym (eq-eqb first.lane line.lane same)) (omega arith)
-line_left (first ∷ lines) (suc k) line at = let rest = line_left lines k line at in omega arith
+-- a call that is still to come counts
+pub call_counts : (lanes : List ℕ) (k lane : ℕ) → slice_get lanes k ≡ Some lane → counts lane (take k lanes) < counts lane lanes
+call_counts [] k lane at = absurd (cc)
+call_counts (first ∷ lanes) zero lane at =
+    let same : first ≡ lane = same_Some first lane at in
+    subst (λ b. 0 < cond b 1 0 + counts lane lanes) (sym (eq-eqb first lane same)) (omega arith)
+call_counts (first ∷ lanes) (suc k) lane at = let rest = call_counts lanes k lane at in omega arith

@@ -7,11 +7,10 @@ use Rattle.fal_base.specs.declared.call.Config.{Config}
 use Rattle.fal_base.specs.declared.event.Event.{Event}
 use Rattle.fal_io.specs.Causes.{Rose, AppendsFront}
 use Rattle.fal_script.specs.declared.script.Script.{Script}
-use Rattle.fal_script.specs.Configs.{config_of_script}
+use Rattle.fal_script.specs.Configs.{config_of_script, order_of}
 use Rattle.fal_script.specs.Script.{script_of}
 use Rattle.fal_story.specs.Run.{IsLegal}
 use Rattle.falcon_run.specs.Recorded.{IsRecorded, run_text}
-use Rattle.falcon_run.specs.Serial.{order_of}
 
 -- the words are the one word
 abbrev pub IsSerial : List (String Global) → Type 0

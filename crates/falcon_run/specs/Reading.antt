@@ -16,16 +16,16 @@ IsScript bytes (Err OutOfMemory) = Unit {0}
 IsScript bytes (Err ReadFault) = ⊥
 
 -- what the source gave, or why there is no script of it
-abbrev pub Gives : Option (List ℕ) → Option (List ℕ) → ℕ → ℕ → Result Script Unread → Type 0
-Gives left rest before now (Ok script) = GaveScript left rest script
-Gives left rest before now (Err ReadFault) = Rose before now × Took left rest (λ n. n ≤ 16777216)
-Gives left rest before now (Err TooLarge) = GaveTooMuch left rest
-Gives left rest before now (Err NoScript) = GaveNoScript left rest
-Gives left rest before now (Err OutOfMemory) = Unit {0}
+abbrev pub GivesScript : Option (List ℕ) → Option (List ℕ) → ℕ → ℕ → Result Script Unread → Type 0
+GivesScript left rest before now (Ok script) = GaveScript left rest script
+GivesScript left rest before now (Err ReadFault) = Rose before now × Took left rest (λ n. n ≤ 16777216)
+GivesScript left rest before now (Err TooLarge) = GaveTooMuch left rest
+GivesScript left rest before now (Err NoScript) = GaveNoScript left rest
+GivesScript left rest before now (Err OutOfMemory) = Unit {0}
 
 -- whatever comes of it, the source has lost a front of what it had
 pub record IsReading (left rest : Option (List ℕ)) (before now : ℕ) (result : Result Script Unread) : Type 0 where
-  pub gives : Gives left rest before now result
+  pub gives : GivesScript left rest before now result
   pub lost : LostFront left rest
 
 -- the status that the bytes are owed where they were all told and the source did not fail

@@ -1,14 +1,9 @@
 -- The serial order of a script: each call alone, in line order.
-use Rattle.std.specs.Prelude.{◌≡◌, ℕ, ◌+◌, List, [], ◌∷◌, ◌++◌, map, if◌then◌else◌, ◌==◌}
+use Rattle.std.specs.Prelude.{◌≡◌, ℕ, ◌+◌, List, [], ◌∷◌, ◌++◌, if◌then◌else◌, ◌==◌}
 use Rattle.fal_base.specs.declared.call.Config.{Config}
 use Rattle.fal_base.specs.declared.event.Event.{Event}
 use Rattle.fal_base.specs.declared.event.Event.TheVariants.{Send}
-use Rattle.fal_script.specs.declared.script.ScriptCall.{ScriptCall}
 use Rattle.fal_story.specs.Fresh.{IsDrained}
-
--- the lanes of a script's calls, in line order
-abbrev pub order_of : List ScriptCall → List ℕ
-order_of lines = map (λ line. line.lane) lines
 
 -- after the events before, the rest are for each lane in turn its Send and then the first fresh events other than Sends, until there is none
 abbrev pub IsSerialFrom : Config → List Event → List ℕ → List Event → Type 0
@@ -26,13 +21,3 @@ IsSerialRun config lanes events = IsSerialFrom config [] lanes events
 abbrev pub counts : ℕ → List ℕ → ℕ
 counts lane [] = 0
 counts lane (other ∷ lanes) = (if other == lane then 1 else 0) + counts lane lanes
-
--- how many calls of this lane an event sends
-abbrev pub calls_sent_by : ℕ → Event → ℕ
-calls_sent_by lane (Send other) = if other == lane then 1 else 0
-calls_sent_by lane other = 0
-
--- how many calls of this lane events send
-abbrev pub calls_sent : ℕ → List Event → ℕ
-calls_sent lane [] = 0
-calls_sent lane (event ∷ events) = calls_sent_by lane event + calls_sent lane events

@@ -3,7 +3,7 @@ ghost use Rattle.fal_io.specs.Causes.{Rose, AppendsFront, Took};
 ghost use Rattle.std.specs.Io.KnownBytes.{Appends};
 ghost use Rattle.falcon_run.specs.Answers.{Refuses, Writes, IsOwed};
 ghost use Rattle.falcon_run.specs.Recorded.{IsRecorded, run_text as run_text_of};
-ghost use Rattle.falcon_run.specs.Serial.{order_of};
+ghost use Rattle.falcon_run.specs.Serving.{HasCallsFor};
 ghost use Rattle.fal_script.specs.Ranges.{IsSpelledScript};
 ghost use Rattle.fal_story.specs.Clusters.{IsCluster};
 ghost use Rattle.fal_story.specs.Run.{IsLegal};
@@ -15,8 +15,8 @@ use crate::text::run_text;
 use fal_alone::Cluster;
 use fal_base::{Config, Event, OutOfMemory};
 use fal_io::{Failed, Sink, Source, put_all};
-use fal_script::{Script, config_of};
-use fal_story::Run;
+use fal_script::{Script, into_config, scripts_are_in_range};
+use fal_story::{Run, calls_in_range_may_run};
 use std::alloc::Global;
 
 /// The one run that took place: the cluster, and the events in their order.
@@ -60,41 +60,37 @@ fn write<K: Sink>(sink: &mut K, text: &[u8]) -> u8
     }
 }
 
-// Does the calls of a script, and gives the text of their run.
-fn run_cluster(
-    alloc: Global,
-    cluster: &mut Cluster,
-    script: &Script,
-) -> Result<Vec<u8>, OutOfMemory>
-    requires config { cluster.old.config ≡ cluster_of script.now }
-    requires range { IsSpelledScript script.now }
+// Does a call of each of these lanes in their order, and gives the text of their run.
+fn run_cluster(alloc: Global, cluster: &mut Cluster, lanes: &[u8]) -> Result<Vec<u8>, OutOfMemory>
+    requires calls { HasCallsFor cluster.old.config lanes.now }
     requires none { cluster.old.events ≡ [] }
     ensures config { cluster.new.config ≡ cluster.old.config }
     ensures legal { IsLegal cluster.new.config cluster.new.events }
-    ensures recorded { OnOk result (IsRecorded cluster.new.config (order_of script.now.lines) cluster.new.events) }
+    ensures recorded { OnOk result (IsRecorded cluster.new.config lanes.now cluster.new.events) }
     ensures text { IfOk result (λ text. text.items ≡ run_text_of cluster.new.config cluster.new.events) }
 {
-    let served = serve(cluster, script);
+    let served = serve(cluster, lanes);
     cluster.book().legal();
     served?;
     run_text(alloc, cluster)
 }
 
 // Runs the script's cluster, keeps the run in the trace, and writes its text.
-fn run_script<K: Sink>(alloc: Global, script: &Script, sink: &mut K, trace: &mut Trace) -> u8
-    requires cluster { IsCluster (cluster_of script.now) }
-    requires range { IsSpelledScript script.now }
+fn run_script<K: Sink>(alloc: Global, script: Script, sink: &mut K, trace: &mut Trace) -> u8
+    requires cluster { IsCluster (cluster_of script) }
+    requires range { IsSpelledScript script }
     requires config { trace.old.config ≡ None }
     requires events { trace.old.events.items ≡ [] }
-    ensures { Writes script.now (K.holds sink.old) (K.holds sink.new) (K.faults sink.old) (K.faults sink.new) trace.new.config trace.new.events.items result }
+    ensures { Writes script (K.holds sink.old) (K.holds sink.new) (K.faults sink.old) (K.faults sink.new) trace.new.config trace.new.events.items result }
 {
-    let Ok(config) = config_of(alloc, script, 1) else {
+    let Ok(parts) = into_config(alloc, script, 1) else {
         return 6;
     };
+    let (config, lanes) = parts;
     let Ok(mut cluster) = Cluster::new(alloc, config) else {
         return 6;
     };
-    let text = run_cluster(alloc, &mut cluster, script);
+    let text = run_cluster(alloc, &mut cluster, &lanes);
     let Run { config, events } = cluster.into_book().into_run();
     trace.config = Some(config);
     trace.events = events.into_items();
@@ -159,8 +155,10 @@ pub fn run_serial<S: Source, K: Sink>(
     if !is_serial(words) {
         return refuse(sink, b"falcon: usage\n", 2);
     }
+    scripts_are_in_range();
+    calls_in_range_may_run();
     match read_script(alloc, source) {
-        Ok(script) => run_script(alloc, &script, sink, trace),
+        Ok(script) => run_script(alloc, script, sink, trace),
         Err(Unread::ReadFault) => refuse(sink, b"falcon: read fault\n", 4),
         Err(Unread::TooLarge) => refuse(sink, b"falcon: too large\n", 7),
         Err(Unread::NoScript) => refuse(sink, b"falcon: script\n", 3),

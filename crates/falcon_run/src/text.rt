@@ -12,7 +12,6 @@ pub fn run_text(alloc: Global, cluster: &Cluster) -> Result<Vec<u8>, OutOfMemory
     ensures { IfOk result (λ text. text.items ≡ run_text_of cluster.now.config cluster.now.events) }
 {
     let book = cluster.book();
-    let entries = book.transcript()?;
     let lines = cluster.lines()?;
-    text_of(alloc, book.config(), &entries, &lines)
+    text_of(alloc, book.config(), book.entries(), &lines)
 }

@@ -1,5 +1,5 @@
 -- Records go to actors that are there.
-use Rattle.std.proofs.Common.{◌≡◌, ◌≢◌, ℕ, zero, suc, ◌<◌, ◌%◌, ◌-◌, true, false, cond, List, [], ◌∷◌, length, map, Some, None, IsTrue, refl, sym, subst, arith}
+use Rattle.std.proofs.Common.{◌≡◌, ◌≢◌, ℕ, zero, suc, ◌<◌, ◌%◌, ◌-◌, true, false, cond, List, [], ◌∷◌, length, map, Some, None, IsTrue, refl, sym, subst, ◌∙◌, arith}
 use Rattle.std.specs.Prelude.{slice_get, IsSome}
 use Rattle.std.proofs.lemmas.Bool.Decides.{nat_tests}
 use Rattle.fal_base.specs.declared.call.Config.{Config}
@@ -17,14 +17,15 @@ use Rattle.fal_wire.specs.declared.letter.Letter.{Letter}
 use Rattle.fal_wire.specs.Letters.{output_of}
 use Rattle.fal_place.specs.Hash.{name_hash}
 use Rattle.fal_place.specs.Placement.{owner, route, route_of_last, is_root_key}
+use Rattle.fal_story.proofs.Events.Shows.{Ghost, Shows, WaitsAt, lane_of, view_of}
 use Rattle.fal_story.proofs.Good.{Good}
-use Rattle.fal_story.proofs.Lists.Each.{Each}
+use Rattle.fal_story.proofs.Lists.Each.{Each, each_weaker}
 use Rattle.fal_story.proofs.Lists.Grown.{slice_get_below}
-use Rattle.fal_story.proofs.Phase.{Idle}
+use Rattle.fal_story.proofs.Phase.{Idle, Waits}
 use Rattle.fal_story.proofs.Trees.Standing.{table_of}
 use Rattle.fal_story.proofs.View.{View}
 use Rattle.fal_story.specs.Clusters.{IsCluster, is_lane, is_served}
-use Rattle.fal_story.specs.World.{envelopes_of}
+use Rattle.fal_story.specs.World.{World, envelopes_of}
 
 -- an actor of the cluster. Nothing is sent to the coordinator
 abbrev pub IsActor : Config → Actor → Type 0
@@ -80,6 +81,13 @@ lane_there config v l g busy =
       | zero ↦ λ e. absurd (busy (g.lanes.under_way.started l e))
       | suc s ↦ λ e. let some : 0 < v.seq l = omega arith in lane_of_call config l (v.seq l) (subst (λ o. IsSome o) (sym (named some)) refl)
     ] refl
+
+-- each waiting call is one of a lane that is there
+pub waiters_there : (config : Config) (w : World) (n : ℕ) (h : Ghost) → Shows config w h → Each (λ y. IsTrue (is_lane config (lane_of y))) (w.nodes n).waiting.calls
+waiters_there config w n h s =
+    each_weaker (WaitsAt h.call h.phase n) _ (w.nodes n).waiting.calls
+    (λ y at. lane_there config (view_of config w h) (lane_of y) s.good (λ e. let wrong : Idle ≡ Waits n y.fetch = sym e ∙ at.0 in absurd (cc)))
+    (s.held n).waiters
 
 -- ---- the records of letters
 

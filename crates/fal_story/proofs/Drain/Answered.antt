@@ -11,7 +11,7 @@ use Rattle.fal_client.specs.Step.{id_at}
 use Rattle.fal_node.specs.declared.batch.Batch.{Batch}
 use Rattle.fal_node.specs.Due.{is_quiet}
 use Rattle.fal_node.specs.State.{NodeState}
-use Rattle.fal_story.proofs.Drain.Follow.{IsUnder, Asked, Waiting, Planned, Answered, IsTold}
+use Rattle.fal_story.proofs.Drain.Follow.{IsUnder, Asked, Waiting, Planned, Answered, passed_on, IsTold}
 use Rattle.fal_story.proofs.Drain.FollowRuns.{IsLive, legal_lives}
 use Rattle.fal_story.proofs.Drain.Quiet.{envelope_at, none_is_quiet}
 use Rattle.fal_story.proofs.Events.LegalRuns.{IsKept}
@@ -63,7 +63,7 @@ answered_at config w came k live q j lane seq at =
     let told : IsTold w.entries lane seq =
     elim (w.clients lane).current as (λ o. (w.clients lane).current ≡ o → IsTold w.entries lane seq) [
       | None ↦ λ none. ⊎_elim (λ t. live.followed.over lane seq below.0 (inr (t.1, none))) (λ t. live.followed.over lane seq below.0 (inl (less seq c.seq t.0 high))) (tells seq c.seq)
-      | Some current ↦ λ busy. absurd (none_under config w came (id_at lane c.seq 1) q (live.followed.busy lane current busy))
+      | Some current ↦ λ busy. let b = live.followed.busy lane current busy in absurd (none_under config w came (passed_on (id_at lane c.seq current.attempt) b.hop) q b.under)
     ] refl in
     told
   where

@@ -40,6 +40,24 @@ IsTold entries l s = (i : ℕ) × ((point : ℕ) × ((reply : Reply) × (slice_g
 abbrev pub IsOver : ClientState → ℕ → Type 0
 IsOver c s = (s < c.seq) ⊎ ((s ≡ c.seq) × (c.current ≡ None))
 
+-- the id of a call that was passed on so many times
+abbrev pub passed_on : CallId → ℕ → CallId
+passed_on id hop = record id { hop = hop }
+
+-- the mark is no newer than the call
+abbrev pub IsUpTo : Mark → CallId → Type 0
+IsUpTo m id = is_newer m (Some (mark_of id)) ≡ false
+
+-- no node has taken a record of the call's client that is newer than the call
+abbrev pub IsNewest : (ℕ → NodeState) → CallId → Type 0
+IsNewest nodes id = (n : ℕ) (m : Mark) → last_mark (nodes n).waiting.last id.client ≡ Some m → IsUpTo m id
+
+-- a call is followed by its client, number and attempt: it is under way after it was passed on so many times, and nobody has taken a newer record
+pub record IsBusy (posts : List Post) (came : ℕ → Bool) (nodes : ℕ → NodeState) (id : CallId) : Type 0 where
+  pub hop : ℕ
+  pub under : IsUnder posts came nodes (passed_on id hop)
+  pub newest : IsNewest nodes (passed_on id hop)
+
 -- batches differ by their numbers, and the next number is new
 pub record AreNumbered (batches : List Batch) (next : ℕ) : Type 0 where
   pub apart : Apart (λ (b : Batch). b.number) batches
@@ -49,7 +67,7 @@ abbrev pub IsNumbered : NodeState → Type 0
 IsNumbered x = AreNumbered x.batches x.batches_numbered
 
 pub record IsFollowed (w : World) (came : ℕ → Bool) : Type 0 where
-  pub busy : (l : ℕ) (current : Current) → (w.clients l).current ≡ Some current → IsUnder (posts_of w.envelopes) came w.nodes (id_at l (w.clients l).seq 1)
+  pub busy : (l : ℕ) (current : Current) → (w.clients l).current ≡ Some current → IsBusy (posts_of w.envelopes) came w.nodes (id_at l (w.clients l).seq current.attempt)
   pub over : (l s : ℕ) → 0 < s → IsOver (w.clients l) s → IsTold w.entries l s
   pub marks : (n l : ℕ) (m : Mark) → last_mark (w.nodes n).waiting.last l ≡ Some m → m.seq ≤ (w.clients l).seq
   pub batches : (n : ℕ) → IsNumbered (w.nodes n)

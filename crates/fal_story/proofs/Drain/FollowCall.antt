@@ -12,16 +12,15 @@ use Rattle.fal_base.specs.declared.event.Envelope.{Envelope}
 use Rattle.fal_base.specs.declared.op.Op.{Op}
 use Rattle.fal_base.specs.declared.op.Op.TheVariants as op
 use Rattle.fal_base.specs.declared.path.PathArg.TheVariants.{Good, Bad}
-use Rattle.fal_client.specs.Step.{id_at}
 use Rattle.fal_exec.specs.RowCall.{row_names}
 use Rattle.fal_wire.specs.declared.letter.Letter.{Letter}
 use Rattle.fal_node.specs.Deliver.{admitted, take_call, take_message, take_read, delivered}
 use Rattle.fal_node.specs.Letters.{begun, is_asker}
 use Rattle.fal_node.specs.State.{NodeState, with_item}
-use Rattle.fal_node.specs.Step.{is_node}
+use Rattle.fal_node.specs.Step.{is_to_node}
 use Rattle.fal_base.specs.declared.mark.Mark.{Mark}
 use Rattle.fal_wait.specs.declared.waiting_call.WaitingCall.{WaitingCall}
-use Rattle.fal_base.specs.Marks.{mark_of, last_mark, is_newer}
+use Rattle.fal_base.specs.Marks.{mark_of, last_mark, with_mark, is_newer}
 use Rattle.fal_wait.specs.Waiting.{fetch_of, with_call, is_new}
 use Rattle.fal_wire.specs.declared.fault.WireFault.{WireFault}
 use Rattle.fal_wire.specs.declared.message.Message.{Message}
@@ -29,9 +28,10 @@ use Rattle.fal_wire.specs.declared.message.Message.TheVariants as message
 use Rattle.fal_wire.specs.Messages.{Fits, reading}
 use Rattle.fal_wire.specs.Names.{path_arg_field}
 use Rattle.fal_wire.specs.Ops.{op_field, path_and_mode, path_and_want, path_and_size}
-use Rattle.fal_story.proofs.Drain.Follow.{IsFollowed, under_node, waiting_now, planned_now, asked_now}
+use Rattle.fal_story.proofs.Drain.Follow.{IsFollowed, IsUpTo, under_node, waiting_now, planned_now, asked_now}
 use Rattle.fal_story.proofs.Drain.FollowDeliver.{coming_post, other_fresh, IsNoCall, plain_follows, settle_follows}
-use Rattle.fal_story.proofs.Drain.FollowNode.{node_follows}
+use Rattle.fal_story.proofs.Drain.FollowNode.{AreMarked, node_follows, marks_stay}
+use Rattle.fal_story.proofs.Drain.FollowGhost.{asked_by, live_is}
 use Rattle.fal_story.proofs.Drain.Moving.{IsMoving}
 use Rattle.fal_story.proofs.Drain.MovingDeliver.{IsComing}
 use Rattle.fal_story.proofs.Drain.MovingGot.{node_of}
@@ -40,7 +40,7 @@ use Rattle.fal_story.proofs.Events.Shows.{Ghost, Shows, posts_of}
 use Rattle.fal_story.proofs.Lists.Grown.{tells, put_other}
 use Rattle.fal_story.proofs.Lists.Joined.{in_last}
 use Rattle.fal_story.proofs.Lists.Members.{IsIn, in_front}
-use Rattle.fal_story.proofs.Lists.Newer.{mark_cases}
+use Rattle.fal_story.proofs.Lists.Newer.{mark_cases, not_newer_itself}
 use Rattle.fal_story.proofs.Phase.{Idle, Asked}
 use Rattle.fal_story.proofs.View.{Post, IsPosted, post}
 use Rattle.fal_story.specs.Clusters.{is_served}
@@ -64,11 +64,6 @@ row_some (op.Truncate (Bad fault raw) size) served fits = absurd (fits.0)
 row_some (op.Unlink (Good names)) served fits = refl
 row_some (op.Unlink (Bad fault raw)) served fits = absurd fits
 row_some other served fits = absurd (cc)
-
--- a record that is newer is that of the call under way
-asked_by : (config : Config) (w : World) (n : ℕ) (h : Ghost) (e p : ℕ) (c : CallRec) → Shows config w h → IsPosted (posts_of w.envelopes) e (Node n) p (message.Call c) → is_new (w.nodes n).waiting c ≡ true
-    → (c ≡ h.call c.id.client) × (h.phase c.id.client ≡ Asked n)
-asked_by config w n h e p c s at newer = ⊎_elim (λ y. y) (λ old. absurd (cc)) (s.good.records.requests e n p c at)
 
 -- so it is one that a row decides, and has the number of its lane's last call
 row_by : (config : Config) (w : World) (n : ℕ) (h : Ghost) (c : CallRec) → Shows config w h → (c ≡ h.call c.id.client) × (h.phase c.id.client ≡ Asked n) → (is_some (row_names c.op) ≡ true) × (c.id.seq ≡ (w.clients c.id.client).seq)
@@ -96,8 +91,7 @@ not_taken config w came n e p x call f c at old =
     let later = put came e true in
     let node = w.nodes n in
     node_follows config w came later n (begun node) (λ i y lt. absurd (omega arith)) f
-    (λ l current is under.
-    let id = id_at l (w.clients l).seq 1 in
+    (λ id under.
     under_node posts [] came later w.nodes n node id (other_fresh w came n e x c)
     (λ i q d there fresh same newer.
     ⊎_elim
@@ -109,9 +103,33 @@ not_taken config w came n e p x call f c at old =
     (λ y there same. waiting_now (posts ++ []) later w.nodes n node id y there same)
     (λ y there same. planned_now (posts ++ []) later w.nodes n node id y there same)
     under)
-    (f.marks n) (f.batches n)
+    (marks_stay w came n node.waiting.last f refl) (f.batches n)
 
 -- ---- the call is taken
+
+-- its mark is that of the call under way
+taken_marks : (config : Config) (w : World) (came : ℕ → Bool) (n : ℕ) (h : Ghost) (call : CallRec) → Shows config w h → IsFollowed w came → (call ≡ h.call call.id.client) × (h.phase call.id.client ≡ Asked n)
+    → AreMarked w came (with_mark (w.nodes n).waiting.last call.id.client (mark_of call.id))
+taken_marks config w came n h call s f mine =
+    let last = (w.nodes n).waiting.last in
+    record {
+      sent = λ l m is.
+          ⊎_elim
+          (λ z.
+          let seq : m.seq ≡ call.id.seq = ap (λ (y : Mark). y.seq) (sym (same_Some (mark_of call.id) m (sym z.1 ∙ is))) in
+          let own : call.id.seq ≡ (w.clients l).seq = (row_by config w n h call s mine).1 ∙ ap (λ j. (w.clients j).seq) (sym z.0) in
+          omega arith)
+          (λ z. f.marks n l m (sym z.1 ∙ is))
+          (mark_cases last call.id.client (mark_of call.id) l);
+      newest = λ id now under newest m is.
+          ⊎_elim
+          (λ z.
+          let new : mark_of call.id ≡ m = same_Some (mark_of call.id) m (sym z.1 ∙ is) in
+          let same : id ≡ call.id = live_is config w came n h id s under now (ap h.phase z.0 ∙ mine.1) ∙ ap (λ (c : CallRec). c.id) (ap h.call z.0 ∙ sym mine.0) in
+          subst (λ y. IsUpTo y id) new (ap (λ j. is_newer (mark_of call.id) (Some (mark_of j))) same ∙ not_newer_itself (mark_of call.id)))
+          (λ z. newest n m (sym z.1 ∙ is))
+          (mark_cases last call.id.client (mark_of call.id) id.client);
+    }
 
 taken : (config : Config) (w : World) (came : ℕ → Bool) (n e p : ℕ) (x : Envelope) (h : Ghost) (call : CallRec) → Shows config w h → IsFollowed w came → IsComing w n e x
     → IsPosted (posts_of w.envelopes) e (Node n) p (message.Call call) → is_new (w.nodes n).waiting call ≡ true → IsFollowed (After config w n (begun (record (w.nodes n) { waiting = with_call (w.nodes n).waiting call }))) (put came e true)
@@ -126,8 +144,7 @@ taken config w came n e p x h call s f c at newest =
     let here : WaitingCall = record { ticket = list.tickets; call = call; fetch = None } in
     let at_end : IsIn here after.waiting.calls = in_last list.calls here in
     node_follows config w came later n (begun after) (λ i y lt. absurd (omega arith)) f
-    (λ l current is under.
-    let id = id_at l (w.clients l).seq 1 in
+    (λ id under.
     under_node posts [] came later w.nodes n after id (other_fresh w came n e x c)
     (λ i q d there fresh same newer.
     ⊎_elim
@@ -146,14 +163,7 @@ taken config w came n e p x h call s f c at newest =
     (λ y there same. waiting_now (posts ++ []) later w.nodes n after id y (in_front list.calls (here ∷ []) y there) same)
     (λ y there same. planned_now (posts ++ []) later w.nodes n after id y there same)
     under)
-    (λ l m is.
-    ⊎_elim
-    (λ z.
-    let seq : m.seq ≡ call.id.seq = ap (λ (y : Mark). y.seq) (sym (same_Some (mark_of call.id) m (sym z.1 ∙ is))) in
-    let own : call.id.seq ≡ (w.clients l).seq = (row_by config w n h call s mine).1 ∙ ap (λ j. (w.clients j).seq) (sym z.0) in
-    omega arith)
-    (λ z. f.marks n l m (sym z.1 ∙ is))
-    (mark_cases list.last call.id.client (mark_of call.id) l))
+    (taken_marks config w came n h call s f mine)
     (record { apart = (f.batches n).apart; below = (f.batches n).below })
 
 call_follows : (config : Config) (w : World) (came : ℕ → Bool) (n e p : ℕ) (x : Envelope) (h : Ghost) (call : CallRec) → Shows config w h → IsFollowed w came → IsComing w n e x
@@ -199,7 +209,7 @@ read_follows config w came n e x h (Err fault) s m f c is fit =
     plain_follows config w came n e x (w.nodes n) m f c (λ call z. let y : None ≡ Some (message.Call call) = sym (ap result_ok is) ∙ z in absurd (cc)) refl refl refl
 
 pub deliver_follows : (config : Config) (w : World) (came : ℕ → Bool) (n e : ℕ) (x : Envelope) (h : Ghost) → Shows config w h → IsMoving config w came → IsFollowed w came → slice_get w.envelopes e ≡ Some x
-    → is_node x.to (w.nodes n).number ≡ true → All (λ (l : Letter). Fits l.message) (delivered (w.nodes n) x).sent → IsFollowed (After config w n (delivered (w.nodes n) x)) (put came e true)
+    → is_to_node x.to (w.nodes n).number ≡ true → All (λ (l : Letter). Fits l.message) (delivered (w.nodes n) x).sent → IsFollowed (After config w n (delivered (w.nodes n) x)) (put came e true)
 unfolding delivered
 deliver_follows config w came n e x h s m f at to fit =
     read_follows config w came n e x h (reading x.bytes) s m f (record { at = at; to = node_of x.to (w.nodes n).number to ∙ ap Node (s.placed n).number }) refl fit

@@ -1,7 +1,7 @@
 -- Each call under way is found after a client sent, and after it heard.
-use Rattle.std.proofs.Common.{◌≡◌, ◌≢◌, inl, inr, ⊎_elim, ℕ, ◌+◌, ◌<◌, ◌≤◌, Bool, true, List, [], ◌∷◌, ◌++◌, length, Option, Some, None, Result, Ok, Err, refl, sym, ap, subst, ◌∙◌, arith}
+use Rattle.std.proofs.Common.{◌≡◌, ◌≢◌, inl, inr, ⊎_elim, ℕ, ◌+◌, ◌<◌, ◌≤◌, Bool, true, false, List, [], ◌∷◌, ◌++◌, length, Option, Some, None, Result, Ok, Err, refl, sym, ap, subst, ◌∙◌, arith}
 use Rattle.std.specs.Prelude.{slice_get}
-use Rattle.std.specs.declared.cmp.Ordering.TheVariants.{Greater}
+use Rattle.std.specs.declared.cmp.Ordering.TheVariants.{Less, Greater}
 use Rattle.std.specs.Cmp.{nat_cmp_is}
 use Rattle.std.specs.List.{All}
 use Rattle.std.specs.Ordering.{nat_cmp, ordering_then, is_gt}
@@ -37,7 +37,7 @@ use Rattle.fal_wire.specs.declared.message.Message.TheVariants as message
 use Rattle.fal_wire.specs.Messages.{Fits, reading}
 use Rattle.fal_wire.proofs.ReadingLaws.{spelled_reads}
 use Rattle.fal_wire.specs.Letters.{output_of}
-use Rattle.fal_story.proofs.Drain.Follow.{IsUnder, Asked, IsFollowed, IsTold, IsOver, told_more, under_more}
+use Rattle.fal_story.proofs.Drain.Follow.{IsUnder, Asked, IsBusy, IsFollowed, passed_on, IsTold, IsOver, told_more, under_more}
 use Rattle.fal_story.proofs.Drain.Moving.{IsMoving}
 use Rattle.fal_story.proofs.Drain.MovingClient.{AfterClient, next_call}
 use Rattle.fal_story.proofs.Drain.MovingDeliver.{post_at}
@@ -54,8 +54,8 @@ use Rattle.fal_story.specs.World.{World, put, posted, envelopes_of, entries_of}
 -- a client's event, by what it does to its own call and to those of others
 client_follows : (config : Config) (w : World) (came later : ℕ → Bool) (l : ℕ) (c : ClientState) (sent : List Output) (notes : List Note) (more : List Post) → IsFollowed w came
     → posts_of (envelopes_of (Client l) w.events (length w.commits) sent) ≡ more
-    → ((current : Current) → c.current ≡ Some current → IsUnder (posts_of w.envelopes ++ more) later w.nodes (id_at l c.seq 1))
-    → ((i : ℕ) (current : Current) → i ≢ l → (w.clients i).current ≡ Some current → IsUnder (posts_of w.envelopes) came w.nodes (id_at i (w.clients i).seq 1) → IsUnder (posts_of w.envelopes ++ more) later w.nodes (id_at i (w.clients i).seq 1))
+    → ((current : Current) → c.current ≡ Some current → IsBusy (posts_of w.envelopes ++ more) later w.nodes (id_at l c.seq current.attempt))
+    → ((id : CallId) → id.client ≢ l → IsUnder (posts_of w.envelopes) came w.nodes id → IsUnder (posts_of w.envelopes ++ more) later w.nodes id)
     → ((s : ℕ) → 0 < s → IsOver c s → IsTold (w.entries ++ entries_of (length w.commits) notes) l s) → (w.clients l).seq ≤ c.seq
     → IsFollowed (posted config (record w { clients = put w.clients l c }) (Client l) sent notes) later
 unfolding posted
@@ -63,8 +63,9 @@ client_follows config w came later l c sent notes more f is own others over grow
     let es = envelopes_of (Client l) w.events (length w.commits) sent in
     let posts : posts_of (w.envelopes ++ es) ≡ posts_of w.envelopes ++ more = map-append (λ e. post_of e) w.envelopes es ∙ ap (λ ps. posts_of w.envelopes ++ ps) is in
     record {
-      busy = subst (λ ps. (i : ℕ) (current : Current) → (put w.clients l c i).current ≡ Some current → IsUnder ps later w.nodes (id_at i (put w.clients l c i).seq 1)) (sym posts)
-          (put_all (λ i x. (current : Current) → x.current ≡ Some current → IsUnder (posts_of w.envelopes ++ more) later w.nodes (id_at i x.seq 1)) w.clients l c own (λ i ne current at. others i current ne at (f.busy i current at)));
+      busy = subst (λ ps. (i : ℕ) (current : Current) → (put w.clients l c i).current ≡ Some current → IsBusy ps later w.nodes (id_at i (put w.clients l c i).seq current.attempt)) (sym posts)
+          (put_all (λ i x. (current : Current) → x.current ≡ Some current → IsBusy (posts_of w.envelopes ++ more) later w.nodes (id_at i x.seq current.attempt)) w.clients l c own
+          (λ i ne current at. let b = f.busy i current at in record { hop = b.hop; under = others (passed_on (id_at i (w.clients i).seq current.attempt) b.hop) ne b.under; newest = b.newest }));
       over = put_all (λ i x. (s : ℕ) → 0 < s → IsOver x s → IsTold (w.entries ++ entries_of (length w.commits) notes) i s) w.clients l c over
           (λ i _ s some at. told_more w.entries (entries_of (length w.commits) notes) i s (f.over i s some at));
       marks = λ n i m at. put_all (λ j x. last_mark (w.nodes n).waiting.last j ≡ Some m → m.seq ≤ x.seq) w.clients l c (λ z. let low = f.marks n l m z in omega arith) (λ j _ z. f.marks n j m z) i at;
@@ -77,6 +78,11 @@ client_follows config w came later l c sent notes more f is own others over grow
 newer_seq : (a b : Mark) → b.seq < a.seq → is_newer a (Some b) ≡ true
 unfolding mark_cmp
 newer_seq a b low = ap (λ r. is_gt (ordering_then r (ordering_then (nat_cmp a.attempt b.attempt) (nat_cmp a.hop b.hop)))) (sym (nat_cmp_is a.seq b.seq Greater low))
+
+-- so an earlier call is not
+older_seq : (a b : Mark) → a.seq < b.seq → is_newer a (Some b) ≡ false
+unfolding mark_cmp
+older_seq a b low = ap (λ r. is_gt (ordering_then r (ordering_then (nat_cmp a.attempt b.attempt) (nat_cmp a.hop b.hop)))) (sym (nat_cmp_is a.seq b.seq Less low))
 
 newer_than : (a : Mark) (o : Option Mark) → ((b : Mark) → o ≡ Some b → b.seq < a.seq) → is_newer a o ≡ true
 newer_than a None h = refl
@@ -101,7 +107,7 @@ skips config w came l h call fault s f none =
     let notes = note.Sent c.lane (c.seq + 1) ∷ note.Answered c.lane (c.seq + 1) (Here 0) (Fail (errno_of fault)) ∷ [] in
     client_follows config w came came l (taken c) [] notes [] f refl
     (λ current e. absurd (cc))
-    (λ i current ne busy under. under_more (posts_of w.envelopes) [] came came w.nodes _ (λ k n p d at fresh. fresh) (λ k p reply at fresh. fresh) under)
+    (λ id ne under. under_more (posts_of w.envelopes) [] came came w.nodes id (λ k n p d at fresh. fresh) (λ k p reply at fresh. fresh) under)
     (λ q some at.
     ⊎_elim
     (λ low. told_more w.entries (entries_of (length w.commits) notes) l q (before_next w came l q f none some low))
@@ -128,9 +134,13 @@ begins config w came l h call cluster s m f none left fit =
     let k : ℕ = length (posts_of w.envelopes) in
     let id_is : called.id ≡ id_at l (c.seq + 1) 1 = ap (λ i. id_at i (c.seq + 1) 1) (s.heard l).lane in
     client_follows config w came came l (record (taken c) { current = Some (first_try call) }) (output_of message_sent ∷ []) notes (new ∷ []) f posts
-    (λ current e. Asked k (length w.commits + 0) to.0 called (slice_get_end (posts_of w.envelopes) new) (m.past k (omega arith)) id_is
-    (newer_than (mark_of (id_at l (c.seq + 1) 1)) (last_mark (w.nodes to.0).waiting.last l) (λ b is. let low = f.marks to.0 l b is in omega arith)))
-    (λ i current ne busy under. under_more (posts_of w.envelopes) (new ∷ []) came came w.nodes _ (λ j n p d at fresh. fresh) (λ j p reply at fresh. fresh) under)
+    (λ current e. subst (λ (x : Current). IsBusy (posts_of w.envelopes ++ new ∷ []) came w.nodes (id_at l (c.seq + 1) x.attempt)) (same_Some (first_try call) current e) (record {
+      hop = 0;
+      under = Asked k (length w.commits + 0) to.0 called (slice_get_end (posts_of w.envelopes) new) (m.past k (omega arith)) id_is
+          (newer_than (mark_of (id_at l (c.seq + 1) 1)) (last_mark (w.nodes to.0).waiting.last l) (λ b is. let low = f.marks to.0 l b is in omega arith));
+      newest = λ i b is. older_seq b (mark_of (id_at l (c.seq + 1) 1)) (let low = f.marks i l b is in omega arith);
+    }))
+    (λ id ne under. under_more (posts_of w.envelopes) (new ∷ []) came came w.nodes id (λ j n p d at fresh. fresh) (λ j p reply at fresh. fresh) under)
     (λ q some at.
     ⊎_elim
     (λ low. told_more w.entries (entries_of (length w.commits) notes) l q (before_next w came l q f none some low))
@@ -153,9 +163,9 @@ read_is (Ok n) m e = cc
 read_is (Err fault) m e = absurd (cc)
 
 -- the calls of which the answer did not come now
-still_under : (w : World) (came : ℕ → Bool) (l number i : ℕ) (x : Envelope) (id : CallId) → slice_get w.envelopes number ≡ Some x → x.to ≡ Client l
+still_under : (w : World) (came : ℕ → Bool) (l number : ℕ) (x : Envelope) (id : CallId) → slice_get w.envelopes number ≡ Some x → x.to ≡ Client l
     → ((reply : Reply) → id.client ≡ l → reading x.bytes ≡ Ok (message.Reply id reply) → ⊥) → IsUnder (posts_of w.envelopes) came w.nodes id → IsUnder (posts_of w.envelopes ++ []) (put came number true) w.nodes id
-still_under w came l number i x id at to unheard under =
+still_under w came l number x id at to unheard under =
     under_more (posts_of w.envelopes) [] came (put came number true) w.nodes id
     (λ k n p d there fresh.
     ⊎_elim
@@ -183,8 +193,11 @@ rests : (config : Config) (w : World) (came : ℕ → Bool) (l number : ℕ) (x 
 rests config w came l number x f at to unheard =
     let c = w.clients l in
     client_follows config w came (put came number true) l c [] [] [] f refl
-    (λ current busy. still_under w came l number l x (id_at l c.seq 1) at to (λ reply same read. unheard current reply busy read) (f.busy l current busy))
-    (λ i current ne busy under. still_under w came l number i x (id_at i (w.clients i).seq 1) at to (λ reply same read. absurd (ne same)) under)
+    (λ current busy.
+    let b = f.busy l current busy in
+    let id = passed_on (id_at l c.seq current.attempt) b.hop in
+    record { hop = b.hop; under = still_under w came l number x id at to (λ reply same read. unheard current id reply busy refl refl read) b.under; newest = b.newest })
+    (λ id ne under. still_under w came l number x id at to (λ reply same read. absurd (ne same)) under)
     (λ s some over. told_more w.entries [] l s (f.over l s some over))
     (omega arith)
 
@@ -196,7 +209,7 @@ answers config w came l number x h reply s f at to =
     let notes = note.Answered c.lane c.seq (Carried x.point) reply ∷ [] in
     client_follows config w came (put came number true) l (record c { current = None }) [] notes [] f refl
     (λ current e. absurd (cc))
-    (λ i current ne busy under. still_under w came l number i x (id_at i (w.clients i).seq 1) at to (λ told same read. absurd (ne same)) under)
+    (λ id ne under. still_under w came l number x id at to (λ told same read. absurd (ne same)) under)
     (λ q some over.
     ⊎_elim
     (λ low. told_more w.entries (entries_of (length w.commits) notes) l q (f.over l q some (inl low)))

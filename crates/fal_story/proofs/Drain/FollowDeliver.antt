@@ -14,9 +14,8 @@ use Rattle.fal_base.specs.declared.key.Key.{Key}
 use Rattle.fal_base.specs.declared.reply.Errno.{Errno}
 use Rattle.fal_base.specs.declared.reply.Errno.TheVariants.{Enoent, Enotdir}
 use Rattle.fal_base.specs.declared.reply.Reply.TheVariants.{Fail}
-use Rattle.fal_client.specs.Step.{id_at}
 use Rattle.fal_wire.specs.declared.letter.Letter.{Letter}
-use Rattle.fal_node.specs.Deliver.{installed, emptied, refusals, refuse, settle_pending}
+use Rattle.fal_node.specs.Deliver.{learned, dismissed, refusals, refuse, settle_pending}
 use Rattle.fal_node.specs.Letters.{Work, begun, reply_letter}
 use Rattle.fal_node.specs.State.{NodeState}
 use Rattle.fal_wait.specs.declared.pending_fetch.PendingFetch.{PendingFetch}
@@ -30,7 +29,7 @@ use Rattle.fal_wire.specs.declared.message.Message.TheVariants as message
 use Rattle.fal_wire.specs.Messages.{Fits, reading}
 use Rattle.fal_story.proofs.Drain.Follow.{IsFollowed, AreNumbered, under_node, waiting_now, planned_now, asked_now}
 use Rattle.fal_story.proofs.Drain.FollowExec.{IsReplied, replied_under}
-use Rattle.fal_story.proofs.Drain.FollowNode.{node_follows}
+use Rattle.fal_story.proofs.Drain.FollowNode.{node_follows, marks_stay}
 use Rattle.fal_story.proofs.Drain.Moving.{IsMoving}
 use Rattle.fal_story.proofs.Drain.MovingDeliver.{IsComing, post_at, came_past}
 use Rattle.fal_story.proofs.Drain.MovingServe.{After}
@@ -70,8 +69,7 @@ other_follows config w came n e x k m f c no_call fit last stays batches numbere
     let posts = posts_of w.envelopes in
     let later = put came e true in
     node_follows config w came later n k fit f
-    (λ l current is under.
-    let id = id_at l (w.clients l).seq 1 in
+    (λ id under.
     under_node posts more came later w.nodes n k.node id (other_fresh w came n e x c)
     (λ i p call there fresh same newer.
     asked_now posts more later w.nodes n i p k.node id call there
@@ -82,11 +80,11 @@ other_follows config w came n e x k m f c no_call fit last stays batches numbere
     (λ y there same.
     ⊎_elim
     (λ z. waiting_now (posts ++ more) later w.nodes n k.node id z.0 z.1.0 (ap (λ (d : CallRec). d.id) z.1.1 ∙ same))
-    (λ z. replied_under w later k (put w.nodes n k.node) l (w.clients l).seq y.call (past_still w.envelopes e x came c.at m.past) z same)
+    (λ z. replied_under w later k (put w.nodes n k.node) id y.call (past_still w.envelopes e x came c.at m.past) z same)
     (stays y there))
     (λ y there same. planned_now (posts ++ more) later w.nodes n k.node id y (subst (λ bs. IsIn y (calls_in bs)) (sym batches) there) same)
     under)
-    (λ l mark is. f.marks n l mark (subst (λ ms. last_mark ms l ≡ Some mark) last is))
+    (marks_stay w came n k.node.waiting.last f last)
     (subst (λ bs. AreNumbered bs k.node.batches_numbered) (sym batches) (subst (λ next. AreNumbered (w.nodes n).batches next) (sym numbered) (f.batches n)))
   where
     past_still : (xs : List Envelope) (e : ℕ) (x : Envelope) (came : ℕ → Bool) → slice_get xs e ≡ Some x → ((i : ℕ) → length xs ≤ i → came i ≡ false) → (i : ℕ) → length xs ≤ i → put came e true i ≡ false
@@ -105,11 +103,11 @@ off_call : (number : ℕ) (w : WaitingCall) → (off_fetch number w).call ≡ w.
 off_call number w = elim (waits_on number w.fetch) as (λ b. (cond b (record w { fetch = None }) w).call ≡ w.call) [ true ↦ refl | false ↦ refl ]
 
 dir_follows : (config : Config) (w : World) (came : ℕ → Bool) (n e : ℕ) (key : Key) (dentry : Dentry) (x : Envelope) (fetch : PendingFetch) → IsMoving config w came → IsFollowed w came → IsComing w n e x → IsNoCall x
-    → fetch_of (w.nodes n).waiting fetch.number ≡ Some fetch → IsFollowed (After config w n (begun (installed (w.nodes n) fetch.number key dentry))) (put came e true)
-unfolding installed
+    → fetch_of (w.nodes n).waiting fetch.number ≡ Some fetch → IsFollowed (After config w n (begun (learned (w.nodes n) fetch.number key dentry))) (put came e true)
+unfolding learned
 dir_follows config w came n e key dentry x fetch m f c no_call is =
     let list = (w.nodes n).waiting in
-    other_follows config w came n e x (begun (installed (w.nodes n) fetch.number key dentry)) m f c no_call (λ i y lt. absurd (omega arith)) (settled_last list fetch.number)
+    other_follows config w came n e x (begun (learned (w.nodes n) fetch.number key dentry)) m f c no_call (λ i y lt. absurd (omega arith)) (settled_last list fetch.number)
     (λ y at. inl (off_fetch fetch.number y, (subst (λ ys. IsIn (off_fetch fetch.number y) ys) (sym (settled_calls list fetch.number fetch is)) (in_map (λ z. off_fetch fetch.number z) list.calls y at), off_call fetch.number y)))
     refl refl
 
@@ -124,7 +122,7 @@ in_filter p (w ∷ ws) y at is =
 
 refused_follows : (config : Config) (w : World) (came : ℕ → Bool) (n e : ℕ) (errno : Errno) (x : Envelope) (fetch : PendingFetch) (h : Ghost) → Shows config w h → IsMoving config w came → IsFollowed w came → IsComing w n e x → IsNoCall x
     → fetch_of (w.nodes n).waiting fetch.number ≡ Some fetch → All (λ (l : Letter). Fits l.message) (refuse (w.nodes n) x.point errno fetch).sent → IsFollowed (After config w n (refuse (w.nodes n) x.point errno fetch)) (put came e true)
-unfolding emptied
+unfolding dismissed
 refused_follows config w came n e errno x fetch h s m f c no_call is fit =
     let list = (w.nodes n).waiting in
     let tidy = (s.placed n).tidy in

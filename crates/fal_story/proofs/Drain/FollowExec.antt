@@ -3,12 +3,12 @@ use Rattle.std.proofs.Common.{◌≡◌, ◌≢◌, ◌⊎◌, inl, inr, ⊎_eli
 use Rattle.std.specs.Prelude.{◌==◌}
 use Rattle.std.specs.List.{All, find}
 use Rattle.std.proofs.lemmas.Option.{same_Some}
+use Rattle.fal_base.specs.declared.call.CallId.{CallId}
 use Rattle.fal_base.specs.declared.call.CallRec.{CallRec}
 use Rattle.fal_base.specs.declared.call.Config.{Config}
 use Rattle.fal_base.specs.declared.event.Point.{Point}
 use Rattle.fal_base.specs.declared.event.Point.TheVariants.{Here}
 use Rattle.fal_base.specs.declared.reply.Reply.{Reply}
-use Rattle.fal_client.specs.Step.{id_at}
 use Rattle.fal_exec.specs.declared.outcome.ExecOut.{ExecOut}
 use Rattle.fal_exec.specs.declared.outcome.ExecOut.TheVariants as out
 use Rattle.fal_node.specs.declared.batch.Batch.{Batch}
@@ -21,7 +21,7 @@ use Rattle.fal_base.specs.Marks.{mark_of, last_mark, is_newer}
 use Rattle.fal_wait.specs.Waiting.{WaitList}
 use Rattle.fal_wire.specs.Messages.{Fits}
 use Rattle.fal_story.proofs.Drain.Follow.{IsUnder, Answered, IsFollowed, AreNumbered, under_node, waiting_now, planned_now, asked_now}
-use Rattle.fal_story.proofs.Drain.FollowNode.{node_follows}
+use Rattle.fal_story.proofs.Drain.FollowNode.{node_follows, marks_stay}
 use Rattle.fal_story.proofs.Drain.Moving.{IsMoving, posts_after}
 use Rattle.fal_story.proofs.Drain.MovingGather.{sent_fresh}
 use Rattle.fal_story.proofs.Drain.MovingServe.{After, IsBack, IsGiven, call_back, run_all, given_calls, batch_calls_are}
@@ -107,11 +107,11 @@ marked_numbered number next bs h = record {
 -- ---- the step
 
 -- a reply that was sent is on its way
-pub replied_under : (w : World) (came : ℕ → Bool) (k : Work) (nodes : ℕ → NodeState) (l s : ℕ) (call : CallRec) → ((i : ℕ) → length w.envelopes ≤ i → came i ≡ false) → IsReplied k.sent call → call.id ≡ id_at l s 1
-    → IsUnder (posts_after w k) came nodes (id_at l s 1)
-replied_under w came k nodes l s call past told same =
+pub replied_under : (w : World) (came : ℕ → Bool) (k : Work) (nodes : ℕ → NodeState) (id : CallId) (call : CallRec) → ((i : ℕ) → length w.envelopes ≤ i → came i ≡ false) → IsReplied k.sent call → call.id ≡ id
+    → IsUnder (posts_after w k) came nodes id
+replied_under w came k nodes id call past told same =
     let fresh = sent_fresh w came k (reply_letter call told.0 told.1.0) past told.1.1 in
-    subst (λ id. IsUnder (posts_after w k) came nodes id) same (Answered fresh.0 (point_of (length w.commits) told.0) told.1.0 fresh.1.0 fresh.1.1)
+    subst (λ i. IsUnder (posts_after w k) came nodes i) same (Answered fresh.0 (point_of (length w.commits) told.0) told.1.0 fresh.1.0 fresh.1.1)
 
 executed_follows : (config : Config) (w : World) (came : ℕ → Bool) (n number : ℕ) (batch : Batch) (k : Work) → IsMoving config w came → IsFollowed w came → All (λ (l : Letter). Fits l.message) k.sent
     → batch_of (w.nodes n) number ≡ Some batch → batch.executed ≡ false → k.node.waiting ≡ (w.nodes n).waiting → k.node.batches ≡ map (as_executed number) (w.nodes n).batches
@@ -121,18 +121,17 @@ executed_follows config w came n number batch k m f fit at waits waiting batches
     let more = letter_posts (length w.commits) k.sent in
     let posts = posts_of w.envelopes in
     node_follows config w came came n k fit f
-    (λ l current is under.
-    let id = id_at l (w.clients l).seq 1 in
+    (λ id under.
     under_node posts more came came w.nodes n k.node id (λ i y there ne fresh. fresh)
     (λ i p call there fresh same newer. asked_now posts more came w.nodes n i p k.node id call there fresh same (subst (λ (z : WaitList). is_newer (mark_of id) (last_mark z.last id.client) ≡ true) (sym waiting) newer))
     (λ y there same. waiting_now (posts ++ more) came w.nodes n k.node id y (subst (λ (z : WaitList). IsIn y z.calls) (sym waiting) there) same)
     (λ y there same.
     ⊎_elim
-    (λ mine. replied_under w came k (put w.nodes n k.node) l (w.clients l).seq y.call m.past (each_in (λ (x : BatchCall). IsReplied k.sent x.call) batch.calls y told mine) same)
+    (λ mine. replied_under w came k (put w.nodes n k.node) id y.call m.past (each_in (λ (x : BatchCall). IsReplied k.sent x.call) batch.calls y told mine) same)
     (λ other. planned_now (posts ++ more) came w.nodes n k.node id y (subst (λ bs. IsIn y (calls_in bs)) (sym batches) other) same)
     (marked_calls number node.batches batch y (f.batches n).apart at waits there))
     under)
-    (λ l mark is. f.marks n l mark (subst (λ (z : WaitList). last_mark z.last l ≡ Some mark) waiting is))
+    (marks_stay w came n k.node.waiting.last f (ap (λ (z : WaitList). z.last) waiting))
     (subst (λ bs. AreNumbered bs k.node.batches_numbered) (sym batches) (subst (λ next. AreNumbered (map (as_executed number) node.batches) next) (sym numbered) (marked_numbered number node.batches_numbered node.batches (f.batches n))))
 
 pub exec_follows : (config : Config) (w : World) (came : ℕ → Bool) (n number : ℕ) (h : Ghost) (batch : Batch) → Shows config w h → IsMoving config w came → IsFollowed w came → batch_of (w.nodes n) number ≡ Some batch

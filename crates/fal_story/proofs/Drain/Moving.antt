@@ -8,12 +8,12 @@ use Rattle.fal_base.specs.declared.event.Actor.TheVariants.{Node}
 use Rattle.fal_base.specs.declared.event.Envelope.{Envelope}
 use Rattle.fal_base.specs.declared.event.Output.{Output}
 use Rattle.fal_base.specs.declared.event.Note.{Note}
-use Rattle.fal_base.specs.declared.key.Key.{Key}
 use Rattle.fal_client.specs.State.{ClientState}
 use Rattle.fal_node.specs.declared.item.Item.{Item}
 use Rattle.fal_wire.specs.declared.letter.Letter.{Letter}
 use Rattle.fal_node.specs.Due.{is_quiet}
 use Rattle.fal_node.specs.Letters.{Work}
+use Rattle.fal_wire.specs.declared.message.Message.{Message}
 use Rattle.fal_wire.specs.declared.message.Message.TheVariants as message
 use Rattle.fal_wire.specs.Messages.{Fits}
 use Rattle.fal_wire.specs.Letters.{output_of}
@@ -33,15 +33,36 @@ items_in w n = (w.nodes n).items
 abbrev pub IsPast : ℕ → (ℕ → Bool) → Type 0
 IsPast count came = (k : ℕ) → count ≤ k → came k ≡ false
 
--- the message asks for a directory
-abbrev pub IsQuestion : Item → Type 0
-IsQuestion item = (asker : ℕ) × ((number : ℕ) × ((key : Key) × (item.message ≡ message.FetchAsk asker number key)))
+-- what is asked of an item, by the kind of its message: that it can be served where no batch is left, no key is shut and no name is blocked.
+-- A node keeps nothing but questions as items so far
+abbrev pub IsServable : Message → Type 0
+IsServable (message.FetchAsk asker number key) = Unit {0}
+IsServable (message.Call call) = ⊥
+IsServable (message.Reply id reply) = ⊥
+IsServable (message.Stale id old new changes) = ⊥
+IsServable (message.Opened id dir) = ⊥
+IsServable (message.ListAsk id version dir) = ⊥
+IsServable (message.ListPart id node names) = ⊥
+IsServable (message.FetchGot number key what) = ⊥
+IsServable (message.Lock op keys) = ⊥
+IsServable (message.Locked op node rows) = ⊥
+IsServable (message.Count op dir) = ⊥
+IsServable (message.Counted op node number) = ⊥
+IsServable (message.Commit op updates) = ⊥
+IsServable (message.Done op node) = ⊥
+IsServable (message.Block op name) = ⊥
+IsServable (message.Blocked op node rows) = ⊥
+IsServable (message.Install op version rule rows) = ⊥
+IsServable (message.Installed op node) = ⊥
+
+abbrev pub AreServable : List Item → Type 0
+AreServable items = Each (λ item. IsServable item.message) items
 
 pub record IsMoving (config : Config) (w : World) (came : ℕ → Bool) : Type 0 where
   pub past : IsPast (length w.envelopes) came
   pub within : Each (λ (e : Envelope). IsActor config e.to) w.envelopes
   pub waits : (n : ℕ) → AreOnWay (posts_of w.envelopes) came (items_in w) n (w.nodes n).waiting.calls
-  pub questions : (n : ℕ) → Each IsQuestion (w.nodes n).items
+  pub servable : (n : ℕ) → AreServable (w.nodes n).items
   pub beyond : (n : ℕ) → config.nodes ≤ n → is_quiet (w.nodes n) ≡ true
 
 more_past : (xs ys : List Envelope) (came : ℕ → Bool) → IsPast (length xs) came → IsPast (length (xs ++ ys)) came
@@ -60,7 +81,7 @@ client_moves config w came later l c from sent notes m past go ways =
       within = each_join (λ (e : Envelope). IsActor config e.to) w.envelopes es m.within go;
       waits = λ n. subst (λ ps. AreOnWay ps later (items_in w) n (w.nodes n).waiting.calls) (sym (map-append (λ e. post_of e) w.envelopes es))
           (each_weaker _ _ (w.nodes n).waiting.calls (λ x h f is. way_more (posts_of w.envelopes) (posts_of es) later (items_in w) (items_in w) n f (λ i item at. at) (ways n f (h f is))) (m.waits n));
-      questions = m.questions;
+      servable = m.servable;
       beyond = m.beyond;
     }
 
@@ -76,9 +97,9 @@ pub node_moves : (config : Config) (w : World) (came later : ℕ → Bool) (n : 
     → IsPast (length w.envelopes) later → Each (λ (letter : Letter). IsActor config letter.to) k.sent
     → AreOnWay (posts_after w k) later (items_after w n k) n k.node.waiting.calls
     → ((m f : ℕ) → m ≢ n → IsOnWay (posts_of w.envelopes) came (items_in w) m f → IsOnWay (posts_after w k) later (items_after w n k) m f)
-    → Each IsQuestion k.node.items → IsMoving config (posted config (record w { nodes = put w.nodes n k.node }) (Node n) (map output_of k.sent) k.notes) later
+    → AreServable k.node.items → IsMoving config (posted config (record w { nodes = put w.nodes n k.node }) (Node n) (map output_of k.sent) k.notes) later
 unfolding posted
-node_moves config w came later n k there fit m past go here others questions =
+node_moves config w came later n k there fit m past go here others servable =
     let es = envelopes_of (Node n) w.events (length w.commits) (map output_of k.sent) in
     let posts : posts_of (w.envelopes ++ es) ≡ posts_after w k = posts_sent (Node n) w.events (length w.commits) w.envelopes k.sent fit in
     record {
@@ -87,6 +108,6 @@ node_moves config w came later n k there fit m past go here others questions =
       waits = subst (λ ps. (i : ℕ) → AreOnWay ps later (items_after w n k) i (put w.nodes n k.node i).waiting.calls) (sym posts)
           (put_all (λ i x. AreOnWay (posts_after w k) later (items_after w n k) i x.waiting.calls) w.nodes n k.node here
           (λ i ne. each_weaker _ _ (w.nodes i).waiting.calls (λ x h f is. others i f ne (h f is)) (m.waits i)));
-      questions = put_all (λ i x. Each IsQuestion x.items) w.nodes n k.node questions (λ i _. m.questions i);
+      servable = put_all (λ i x. AreServable x.items) w.nodes n k.node servable (λ i _. m.servable i);
       beyond = put_all (λ i x. config.nodes ≤ i → is_quiet x ≡ true) w.nodes n k.node (λ high. absurd (omega arith)) (λ i _. m.beyond i);
     }

@@ -22,7 +22,7 @@ use Rattle.fal_wire.specs.declared.message.Message.{Message}
 use Rattle.fal_wire.specs.declared.message.Message.TheVariants as message
 use Rattle.fal_wire.specs.Messages.{Fits, reading}
 use Rattle.fal_story.proofs.Drain.Actors.{IsActor}
-use Rattle.fal_story.proofs.Drain.Moving.{IsMoving, IsQuestion, IsPast, items_in, posts_after, items_after, node_moves}
+use Rattle.fal_story.proofs.Drain.Moving.{IsMoving, IsServable, AreServable, IsPast, items_in, posts_after, items_after, node_moves}
 use Rattle.fal_story.proofs.Drain.MovingServe.{After}
 use Rattle.fal_story.proofs.Drain.OnWay.{IsOnWay, Keeps, AreOnWay, items_stay, way_more, way_comes}
 use Rattle.fal_story.proofs.Events.InStep.{letter_posts}
@@ -78,7 +78,7 @@ other_moves config w came n e x s there m c no_ask no_got items calls =
     let ways = other_ways w came n e x (begun s) c no_ask no_got items in
     node_moves config w came (put came e true) n (begun s) there (λ i y lt. absurd (omega arith)) m (came_past w.envelopes e x came c.at m.past) tt
     (calls (posts_after w (begun s)) (put came e true) (items_after w n (begun s)) (each_weaker _ _ (w.nodes n).waiting.calls (λ y h f is. ways n f (h f is)) (m.waits n)))
-    (λ i f _ o. ways i f o) (subst (Each IsQuestion) (sym items) (m.questions n))
+    (λ i f _ o. ways i f o) (subst AreServable (sym items) (m.servable n))
 
 -- ---- a call
 
@@ -123,7 +123,7 @@ ask_moves config w came n e asker number key x there m c read =
     o in
     node_moves config w came later n k there (λ i y lt. absurd (omega arith)) m (came_past w.envelopes e x came c.at m.past) tt
     (each_weaker _ _ node.waiting.calls (λ y h f is. ways n f (h f is)) (m.waits n))
-    (λ i f _ o. ways i f o) (each_join IsQuestion node.items (item ∷ []) (m.questions n) ((asker, (number, (key, refl))), tt))
+    (λ i f _ o. ways i f o) (each_join (λ (i : Item). IsServable i.message) node.items (item ∷ []) (m.servable n) (tt, tt))
 
 -- ---- an answer
 
@@ -150,7 +150,7 @@ got_moves config w came n e number key what x k there m c read fit go items call
     let ways = got_ways w came n e number key what x k c read items in
     node_moves config w came (put came e true) n k there fit m (came_past w.envelopes e x came c.at m.past) go
     (calls (λ f. IsOnWay (posts_after w k) (put came e true) (items_after w n k) n f) (each_weaker _ _ (w.nodes n).waiting.calls (λ y h f is ne. ways n f (λ _ same. ne same) (h f is)) (m.waits n)))
-    (λ i f ne o. ways i f (λ same _. ne same) o) (subst (Each IsQuestion) (sym items) (m.questions n))
+    (λ i f ne o. ways i f (λ same _. ne same) o) (subst AreServable (sym items) (m.servable n))
 
 -- a call that was taken off the fetch waits on another one, or on none
 pub off_other : (number : ℕ) (y : WaitingCall) (P : ℕ → Type 0) → ((f : ℕ) → y.fetch ≡ Some f → f ≢ number → P f) → (f : ℕ) → (off_fetch number y).fetch ≡ Some f → P f

@@ -1,11 +1,10 @@
 -- A cluster goes on when a node gathers: with each fetch that it opens a question goes out.
-use Rattle.std.proofs.Common.{◌≡◌, ⊎_elim, ℕ, suc, ◌+◌, ◌<◌, ◌≤◌, Bool, false, List, [], ◌∷◌, ◌++◌, length, map, Some, None, refl, sym, ap, subst, ◌∙◌, arith}
+use Rattle.std.proofs.Common.{◌≡◌, ⊎_elim, ℕ, suc, ◌+◌, ◌<◌, ◌≤◌, Bool, false, List, [], ◌∷◌, ◌++◌, length, map, Some, refl, sym, ap, subst, ◌∙◌, arith}
 use Rattle.std.specs.Prelude.{slice_get}
 use Rattle.std.specs.List.{All}
 use Rattle.std.proofs.lemmas.Option.{same_Some}
 use Rattle.fal_base.specs.declared.call.Config.{Config}
 use Rattle.fal_base.specs.declared.key.Key.{Key}
-use Rattle.fal_batch.specs.Fate.{Fate, Skips, Leaves, Waits, Joins, fate}
 use Rattle.fal_node.specs.declared.batch.BatchCall.{BatchCall}
 use Rattle.fal_wire.specs.declared.letter.Letter.{Letter}
 use Rattle.fal_node.specs.Deliver.{without_calls}
@@ -18,26 +17,20 @@ use Rattle.fal_wait.specs.declared.waiting_call.WaitingCall.{WaitingCall}
 use Rattle.fal_wait.specs.Waiting.{WaitList}
 use Rattle.fal_wire.specs.Messages.{Fits}
 use Rattle.fal_story.proofs.Drain.Actors.{IsActor, owner_there}
-use Rattle.fal_story.proofs.Drain.Moving.{IsMoving, IsQuestion, items_in, posts_after, items_after, node_moves}
+use Rattle.fal_story.proofs.Drain.Moving.{IsMoving, AreServable, items_in, posts_after, items_after, node_moves}
 use Rattle.fal_story.proofs.Drain.MovingServe.{After, posts_long}
 use Rattle.fal_story.proofs.Drain.OnWay.{IsOnWay, Asks, AreOnWay, items_stay, way_more}
-use Rattle.fal_story.proofs.Events.Going.{GoesOn, fates_go}
+use Rattle.fal_story.proofs.Events.Going.{fates_stay}
 use Rattle.fal_story.proofs.Events.InStep.{letter_post, letter_posts}
 use Rattle.fal_story.proofs.Events.Shows.{Ghost, Shows, posts_of}
 use Rattle.fal_story.proofs.Lists.Each.{Each, each_weaker}
-use Rattle.fal_story.proofs.Lists.GatherLists.{IsKept, letters_are, gathered_node}
-use Rattle.fal_story.proofs.Lists.GatherPlan.{Stays}
+use Rattle.fal_story.proofs.Lists.GatherLetters.{letters_are}
+use Rattle.fal_story.proofs.Lists.GatherLists.{IsKept, gathered_node, none_leave}
 use Rattle.fal_story.proofs.Lists.Members.{IsIn, each_map, each_all, each_in, at_in, in_map}
 use Rattle.fal_story.proofs.Lists.OpenedFetches.{pending_of}
 use Rattle.fal_story.proofs.Trees.Standing.{table_of}
 use Rattle.fal_story.specs.Clusters.{IsCluster}
 use Rattle.fal_story.specs.World.{World}
-
-pub going_stays : (f : Fate) → GoesOn f → Stays f
-going_stays Skips h = absurd h
-going_stays (Leaves to) h = absurd h
-going_stays (Waits key) h = tt
-going_stays (Joins denied parent last keys) h = tt
 
 pub batch_waiting : (node : NodeState) (calls : List BatchCall) (keys : List Key) → (with_batch node calls keys).waiting ≡ node.waiting
 unfolding batched
@@ -96,7 +89,7 @@ gathered_moves config w came n k after opened cluster there table number m fit s
     subst (λ j. IsOnWay (posts_after w k) came (items_after w n k) n j) fetch (asked new.1.0 new.1.1.0))
     was.1.1)
     kept))
-    (λ i f _ o. ways i f o) (subst (Each IsQuestion) (sym items) (m.questions n))
+    (λ i f _ o. ways i f o) (subst AreServable (sym items) (m.servable n))
 
 pub gather_moves : (config : Config) (w : World) (came : ℕ → Bool) (n : ℕ) (h : Ghost) → IsCluster config → n < config.nodes → Shows config w h → IsMoving config w came
     → All (λ (l : Letter). Fits l.message) (gathered (w.nodes n) (plan_at (w.nodes n))).sent → IsMoving config (After config w n (gathered (w.nodes n) (plan_at (w.nodes n)))) came
@@ -105,11 +98,11 @@ gather_moves config w came n h cluster there s m fit =
     let node = w.nodes n in
     let plan = plan_at node in
     let tidy = (s.placed n).tidy in
-    let stay = each_weaker _ (λ (x : WaitingCall). x.fetch ≡ None → Stays (fate (setting_at node) x.call)) node.waiting.calls (λ x going _. going_stays (fate (setting_at node) x.call) going) (fates_go config w n h there s) in
-    let list = gathered_node node tidy stay in
+    let none = none_leave node tidy (fates_stay config w n h there s) in
+    let list = gathered_node node tidy in
     let inner = with_waiting node plan.fetches (leaving plan) in
     gathered_moves config w came n (gathered node plan) (without_calls (with_fetches node.waiting plan.fetches) (leaving plan)).calls (pending_of node.waiting.opened plan.fetches) cluster there (s.placed n).table (s.placed n).number m fit
-    (letters_are node tidy stay)
+    (letters_are node tidy none)
     (batch_items inner (batch_calls node.waiting plan.calls) plan.keys)
     (ap (λ (l : WaitList). l.calls) (batch_waiting inner (batch_calls node.waiting plan.calls) plan.keys))
     list.kept

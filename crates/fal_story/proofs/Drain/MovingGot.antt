@@ -15,11 +15,11 @@ use Rattle.fal_base.specs.declared.reply.Errno.{Errno}
 use Rattle.fal_base.specs.declared.reply.Errno.TheVariants.{Enoent, Enotdir}
 use Rattle.fal_base.specs.declared.reply.Reply.TheVariants.{Fail}
 use Rattle.fal_wire.specs.declared.letter.Letter.{Letter}
-use Rattle.fal_node.specs.Deliver.{installed, emptied, refusals, refuse, settle, settle_pending, take_message, take_read, delivered}
+use Rattle.fal_node.specs.Deliver.{learned, dismissed, refusals, refuse, settle, settle_pending, take_message, take_read, delivered}
 use Rattle.fal_node.specs.Letters.{begun, reply_letter, is_asker}
 use Rattle.fal_node.specs.State.{with_item}
 use Rattle.fal_place.specs.Placement.{Placement}
-use Rattle.fal_node.specs.Step.{is_node}
+use Rattle.fal_node.specs.Step.{is_to_node}
 use Rattle.fal_wait.specs.declared.pending_fetch.PendingFetch.{PendingFetch}
 use Rattle.fal_wait.specs.declared.waiting_call.WaitingCall.{WaitingCall}
 use Rattle.fal_wait.specs.Waiting.{fetch_of, off_fetch, waits_on}
@@ -29,26 +29,18 @@ use Rattle.fal_wire.specs.declared.message.Found.TheVariants as found
 use Rattle.fal_wire.specs.declared.message.Message.{Message}
 use Rattle.fal_wire.specs.declared.message.Message.TheVariants as message
 use Rattle.fal_wire.specs.Messages.{Fits, reading}
-use Rattle.fal_story.proofs.Drain.Actors.{IsActor, lane_there}
+use Rattle.fal_story.proofs.Drain.Actors.{IsActor, waiters_there}
 use Rattle.fal_story.proofs.Drain.Moving.{IsMoving}
 use Rattle.fal_story.proofs.Drain.MovingDeliver.{IsComing, other_moves, call_moves, ask_moves, got_moves, off_other, not_waiting}
 use Rattle.fal_story.proofs.Drain.FollowDeliver.{coming_post}
 use Rattle.fal_story.proofs.Drain.MovingServe.{After}
-use Rattle.fal_story.proofs.Events.Shows.{Ghost, Shows, WaitsAt, lane_of, view_of}
+use Rattle.fal_story.proofs.Events.Shows.{Ghost, Shows}
 use Rattle.fal_story.proofs.Lists.Each.{Each, each_weaker, each_both}
 use Rattle.fal_story.proofs.Lists.Grown.{tells}
 use Rattle.fal_story.proofs.Lists.Members.{each_map, each_filter}
 use Rattle.fal_story.proofs.Lists.WaitLists.{found_number, settled_calls, left_calls, refusals_are}
-use Rattle.fal_story.proofs.Phase.{Idle, Waits}
 use Rattle.fal_story.specs.Clusters.{is_lane}
 use Rattle.fal_story.specs.World.{World, put}
-
--- each waiting call is one of a lane that is there
-waiters_there : (config : Config) (w : World) (n : ℕ) (h : Ghost) → Shows config w h → Each (λ y. IsTrue (is_lane config (lane_of y))) (w.nodes n).waiting.calls
-waiters_there config w n h s =
-    each_weaker (WaitsAt h.call h.phase n) _ (w.nodes n).waiting.calls
-    (λ y at. lane_there config (view_of config w h) (lane_of y) s.good (λ e. let wrong : Idle ≡ Waits n y.fetch = sym e ∙ at.0 in absurd (cc)))
-    (s.held n).waiters
 
 -- the fetch is not pending, so nobody waits on it
 unknown_moves : (config : Config) (w : World) (came : ℕ → Bool) (n e number : ℕ) (key : Key) (what : Found) (x : Envelope) (h : Ghost) → n < config.nodes → Shows config w h → IsMoving config w came → IsComing w n e x
@@ -62,11 +54,11 @@ unknown_moves config w came n e number key what x h there s m c read none =
 -- a directory was found: its waiters are free
 dir_moves : (config : Config) (w : World) (came : ℕ → Bool) (n e number : ℕ) (key : Key) (dentry : Dentry) (x : Envelope) (fetch : PendingFetch) → n < config.nodes → IsMoving config w came → IsComing w n e x
     → reading x.bytes ≡ Ok (message.FetchGot number key (found.Dir dentry)) → fetch_of (w.nodes n).waiting fetch.number ≡ Some fetch → fetch.number ≡ number
-    → IsMoving config (After config w n (begun (installed (w.nodes n) fetch.number key dentry))) (put came e true)
-unfolding installed
+    → IsMoving config (After config w n (begun (learned (w.nodes n) fetch.number key dentry))) (put came e true)
+unfolding learned
 dir_moves config w came n e number key dentry x fetch there m c read is same =
     let list = (w.nodes n).waiting in
-    got_moves config w came n e number key (found.Dir dentry) x (begun (installed (w.nodes n) fetch.number key dentry)) there m c read (λ i y lt. absurd (omega arith)) tt refl
+    got_moves config w came n e number key (found.Dir dentry) x (begun (learned (w.nodes n) fetch.number key dentry)) there m c read (λ i y lt. absurd (omega arith)) tt refl
     (λ P each. subst (Each (λ (y : WaitingCall). (f : ℕ) → y.fetch ≡ Some f → P f)) (sym (settled_calls list fetch.number fetch is))
     (each_map (λ (y : WaitingCall). (f : ℕ) → y.fetch ≡ Some f → P f) (λ y. off_fetch fetch.number y) list.calls
     (each_weaker _ _ list.calls (λ y p. off_other fetch.number y P (λ f at ne. p f at (λ z. ne (z ∙ sym same)))) each)))
@@ -75,7 +67,7 @@ dir_moves config w came n e number key dentry x fetch there m c read is same =
 refused_moves : (config : Config) (w : World) (came : ℕ → Bool) (n e number : ℕ) (key : Key) (what : Found) (errno : Errno) (x : Envelope) (fetch : PendingFetch) (h : Ghost) → n < config.nodes → Shows config w h → IsMoving config w came
     → IsComing w n e x → reading x.bytes ≡ Ok (message.FetchGot number key what) → fetch_of (w.nodes n).waiting fetch.number ≡ Some fetch → fetch.number ≡ number
     → All (λ (l : Letter). Fits l.message) (refuse (w.nodes n) x.point errno fetch).sent → IsMoving config (After config w n (refuse (w.nodes n) x.point errno fetch)) (put came e true)
-unfolding emptied
+unfolding dismissed
 refused_moves config w came n e number key what errno x fetch h there s m c read is same fit =
     let list = (w.nodes n).waiting in
     let tidy = (s.placed n).tidy in
@@ -142,13 +134,13 @@ read_moves config w came n e x h (Err fault) there s m c is fit =
     (λ f key what z. let y : None ≡ Some (message.FetchGot f key what) = sym (ap result_ok is) ∙ z in absurd (cc))
     refl (λ posts later items y. y)
 
-pub node_of : (to : Actor) (number : ℕ) → is_node to number ≡ true → to ≡ Node number
+pub node_of : (to : Actor) (number : ℕ) → is_to_node to number ≡ true → to ≡ Node number
 node_of (Client lane) number is = absurd (cc)
 node_of (Node n) number is = ⊎_elim (λ t. ap Node t.1) (λ t. absurd (cc)) (tells n number)
 node_of Coord number is = absurd (cc)
 
 pub deliver_moves : (config : Config) (w : World) (came : ℕ → Bool) (n e : ℕ) (x : Envelope) (h : Ghost) → n < config.nodes → Shows config w h → IsMoving config w came → slice_get w.envelopes e ≡ Some x
-    → is_node x.to (w.nodes n).number ≡ true → All (λ (l : Letter). Fits l.message) (delivered (w.nodes n) x).sent → IsMoving config (After config w n (delivered (w.nodes n) x)) (put came e true)
+    → is_to_node x.to (w.nodes n).number ≡ true → All (λ (l : Letter). Fits l.message) (delivered (w.nodes n) x).sent → IsMoving config (After config w n (delivered (w.nodes n) x)) (put came e true)
 unfolding delivered
 deliver_moves config w came n e x h there s m at to fit =
     read_moves config w came n e x h (reading x.bytes) there s m (record { at = at; to = node_of x.to (w.nodes n).number to ∙ ap Node (s.placed n).number }) refl fit

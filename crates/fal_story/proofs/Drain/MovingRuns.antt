@@ -103,7 +103,7 @@ module _ (config : Config) (w : World) (came : ℕ → Bool) (cluster : IsCluste
 
 pub opening_moves : (config : Config) → IsMoving config (opening_world config) (λ number. false)
 unfolding opening_node
-opening_moves config = record { past = λ k at. refl; within = tt; waits = λ n. tt; questions = λ n. tt; beyond = λ n at. refl }
+opening_moves config = record { past = λ k at. refl; within = tt; waits = λ n. tt; servable = λ n. tt; beyond = λ n at. refl }
 
 -- what each event keeps in worlds that are kept, each run keeps
 pub run_holds : (config : Config) (P : World → (ℕ → Bool) → Type 0) → IsCluster config

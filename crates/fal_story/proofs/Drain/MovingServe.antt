@@ -19,19 +19,20 @@ use Rattle.fal_base.specs.declared.event.Point.TheVariants.{Here}
 use Rattle.fal_base.specs.Tree.{Tree, row_at}
 use Rattle.fal_base.specs.declared.inode.Kind.TheVariants.{Dir, File}
 use Rattle.fal_base.specs.Change.{new_row}
-use Rattle.fal_base.specs.Walk.{is_dir, grants}
+use Rattle.fal_base.specs.Walk.{is_dir, grants, kept_grants}
 use Rattle.fal_duty.specs.Duties.{found_of}
 use Rattle.fal_exec.specs.declared.outcome.Change.TheVariants.{Put, Remove}
 use Rattle.fal_exec.specs.declared.outcome.ExecOut.{ExecOut}
 use Rattle.fal_exec.specs.declared.outcome.ExecOut.TheVariants as out
-use Rattle.fal_exec.specs.Outcome.{outcome_of, checked, found, kept, parent_grants, make_outcome, access_outcome, truncate_outcome, unlink_outcome}
+use Rattle.fal_exec.specs.Outcome.{outcome_of, unless_refused, where_found, without_change, make_outcome, access_outcome, truncate_outcome, unlink_outcome}
 use Rattle.fal_node.specs.declared.batch.Batch.{Batch}
 use Rattle.fal_node.specs.declared.batch.BatchCall.{BatchCall}
 use Rattle.fal_node.specs.declared.item.Item.{Item}
 use Rattle.fal_wire.specs.declared.letter.Letter.{Letter}
 use Rattle.fal_node.specs.Exec.{executed, exec_all, exec_one, exec_as, with_executed, answer_letter, call_outcome, number_after}
 use Rattle.fal_node.specs.Letters.{Work, begun, asker_of, commits_in}
-use Rattle.fal_node.specs.Serve.{can_serve, served, served_letters, fetch_letter, owns}
+use Rattle.fal_node.specs.Serve.{can_serve, served, fetch_letter, owns}
+use Rattle.fal_story.proofs.Events.Enabled.{served_letters, only_sends, served_is}
 use Rattle.fal_node.specs.State.{NodeState, batch_of, item_of, released, without_item}
 use Rattle.fal_place.specs.Placement.{owner}
 use Rattle.fal_wait.specs.Lists.{without_first}
@@ -41,7 +42,7 @@ use Rattle.fal_wire.specs.declared.message.Message.TheVariants as message
 use Rattle.fal_wire.specs.Messages.{Fits}
 use Rattle.fal_wire.specs.Letters.{letter, output_of}
 use Rattle.fal_story.proofs.Drain.Actors.{IsActor, lane_there}
-use Rattle.fal_story.proofs.Drain.Moving.{IsMoving, IsQuestion, items_in, posts_after, items_after, node_moves}
+use Rattle.fal_story.proofs.Drain.Moving.{IsMoving, IsServable, AreServable, items_in, posts_after, items_after, node_moves}
 use Rattle.fal_story.proofs.Drain.OnWay.{IsOnWay, Asks, Keeps, Gets, AreOnWay, items_stay, way_more}
 use Rattle.fal_story.proofs.Events.InStep.{letter_posts, letter_post}
 use Rattle.fal_story.proofs.Events.Shows.{Ghost, Shows, PlannedAt, planned_lane, calls_in, pending_calls, view_of, posts_of}
@@ -66,17 +67,13 @@ keeps_moving config w came n k there fit m go calls items =
     way_more (posts_of w.envelopes) (letter_posts (length w.commits) k.sent) came (items_in w) (items_after w n k) i f (items_stay w.nodes n k.node (λ item at. subst (IsIn item) (sym items) at)) o in
     node_moves config w came came n k there fit m m.past go
     (subst (AreOnWay (posts_after w k) came (items_after w n k) n) (sym calls) (each_weaker _ _ (w.nodes n).waiting.calls (λ x h f is. ways n f (h f is)) (m.waits n)))
-    (λ i f _ o. ways i f o) (subst (Each IsQuestion) (sym items) (m.questions n))
+    (λ i f _ o. ways i f o) (subst AreServable (sym items) (m.servable n))
 
 pub release_moves : (config : Config) (w : World) (came : ℕ → Bool) (n number : ℕ) → n < config.nodes → IsMoving config w came → IsMoving config (After config w n (begun (released (w.nodes n) number))) came
 unfolding released
 release_moves config w came n number there m = keeps_moving config w came n (begun (released (w.nodes n) number)) there (λ i x lt. absurd (omega arith)) m tt refl refl
 
 -- ---- an item is served
-
-item_asks : (node : NodeState) (m : Message) → can_serve node m ≡ true → (asker : ℕ) × ((number : ℕ) × ((key : Key) × (m ≡ message.FetchAsk asker number key)))
-item_asks node (message.FetchAsk asker number key) can = (asker, (number, (key, refl)))
-item_asks node other can = absurd (cc)
 
 -- the letter of a question that is served
 abbrev answer_to : NodeState → ℕ → ℕ → Key → Letter
@@ -120,8 +117,8 @@ served_ways w came n asker number key k told left m f (Keeps i item q at is) =
 
 served_moves : (config : Config) (w : World) (came : ℕ → Bool) (n asker number : ℕ) (key : Key) (k : Work) → n < config.nodes → asker < config.nodes → IsMoving config w came
     → All (λ (l : Letter). Fits l.message) k.sent → k.sent ≡ answer_to (w.nodes n) asker number key ∷ [] → k.node.waiting.calls ≡ (w.nodes n).waiting.calls
-    → ((x : Item) → IsIn x (w.nodes n).items → (x.message ≡ message.FetchAsk asker number key) ⊎ IsIn x k.node.items) → Each IsQuestion k.node.items → IsMoving config (After config w n k) came
-served_moves config w came n asker number key k there asker_there m fit sent calls left questions =
+    → ((x : Item) → IsIn x (w.nodes n).items → (x.message ≡ message.FetchAsk asker number key) ⊎ IsIn x k.node.items) → AreServable k.node.items → IsMoving config (After config w n k) came
+served_moves config w came n asker number key k there asker_there m fit sent calls left servable =
     let old = posts_of w.envelopes in
     let reply = answer_to (w.nodes n) asker number key in
     let posts : old ++ letter_post (length w.commits) reply ∷ [] ≡ posts_after w k = ap (λ ls. old ++ letter_posts (length w.commits) ls) (sym sent) in
@@ -132,38 +129,46 @@ served_moves config w came n asker number key k there asker_there m fit sent cal
     let ways = served_ways w came n asker number key k told left in
     node_moves config w came came n k there fit m m.past (subst (Each (λ (l : Letter). IsActor config l.to)) (sym sent) (asker_there, tt))
     (subst (AreOnWay (posts_after w k) came (items_after w n k) n) (sym calls) (each_weaker _ _ (w.nodes n).waiting.calls (λ x h f is. ways n f (h f is)) (m.waits n)))
-    (λ i f _ o. ways i f o) questions
+    (λ i f _ o. ways i f o) servable
 
 same_node : (a b : ℕ) → Node a ≡ Node b → a ≡ b
 same_node a b e = cc
 
-pub serve_moves : (config : Config) (w : World) (came : ℕ → Bool) (n number : ℕ) (h : Ghost) (item : Item) → IsCluster config → n < config.nodes → Shows config w h → IsMoving config w came
-    → item_of (w.nodes n) number ≡ Some item → can_serve (w.nodes n) item.message ≡ true → All (λ (l : Letter). Fits l.message) (served (w.nodes n) item).sent → IsMoving config (After config w n (served (w.nodes n) item)) came
-unfolding served without_item
-serve_moves config w came n number h item cluster there s m at can fit =
+-- a question is served
+question_moves : (config : Config) (w : World) (came : ℕ → Bool) (n number asker fetch : ℕ) (key : Key) (h : Ghost) (item : Item) → IsCluster config → n < config.nodes → Shows config w h → IsMoving config w came
+    → item_of (w.nodes n) number ≡ Some item → item.message ≡ message.FetchAsk asker fetch key → All (λ (l : Letter). Fits l.message) (served (w.nodes n) item).sent → IsMoving config (After config w n (served (w.nodes n) item)) came
+unfolding without_item
+question_moves config w came n number asker fetch key h item cluster there s m at asks fit =
     let node = w.nodes n in
-    let found = find_in (λ (i : Item). i.number == number) node.items item at in
-    let sent = each_in _ node.items item (s.items n) found.1 in
-    let is = item_asks node item.message can in
-    let asker = is.0 in
-    let fetch = is.1.0 in
-    let key = is.1.1.0 in
-    let posted_at : IsPosted (posts_of w.envelopes) sent.0 (Node n) sent.1.0 (message.FetchAsk asker fetch key) = subst (IsPosted (posts_of w.envelopes) sent.0 (Node n) sent.1.0) is.1.1.1 sent.1.1 in
+    let where_found = find_in (λ (i : Item). i.number == number) node.items item at in
+    let sent = each_in _ node.items item (s.items n) where_found.1 in
+    let posted_at : IsPosted (posts_of w.envelopes) sent.0 (Node n) sent.1.0 (message.FetchAsk asker fetch key) = subst (IsPosted (posts_of w.envelopes) sent.0 (Node n) sent.1.0) asks sent.1.1 in
     let drawn = s.good.asking.numbers.ask sent.0 sent.1.0 (Node n) asker fetch key posted_at in
     let owned : owner node.table key ≡ node.number =
     ap (λ t. owner t key) (s.placed n).table ∙ sym (same_node n (owner (table_of config) key) (s.good.asking.owners sent.0 sent.1.0 asker fetch (Node n) key posted_at)) ∙ sym (s.placed n).number in
     let few = cluster.few_nodes in
     let low : asker < config.nodes = ⊎_elim (λ below. below) (λ own. let begun = s.good.operation.told sent.0 sent.1.0 (Node n) (message.FetchAsk asker fetch key) posted_at own in absurd (omega arith)) drawn.0 in
-    let own : item.number ≡ number = number_of item.number number found.0 in
-    served_moves config w came n asker fetch key (served node item) there low m fit
-    (ap (served_letters node) is.1.1.1 ∙ ap (λ l. l ∷ []) (answer_is node asker fetch key owned (omega arith)))
+    let own : item.number ≡ number = number_of item.number number where_found.0 in
+    subst (λ (k : Work). All (λ (l : Letter). Fits l.message) k.sent → IsMoving config (After config w n k) came) (sym (served_is node item)) (λ sent_fit.
+    served_moves config w came n asker fetch key (only_sends node item) there low m sent_fit
+    (ap (served_letters node) asks ∙ ap (λ l. l ∷ []) (answer_is node asker fetch key owned (omega arith)))
     refl
     (λ x x_at. subst (λ j. (x.message ≡ message.FetchAsk asker fetch key) ⊎ IsIn x (without_first (λ i. i.number == j) node.items)) (sym own)
-    (⊎_elim (λ same. inl (ap (λ (i : Item). i.message) same ∙ is.1.1.1)) (λ still. inr still) (still_kept number node.items item x at x_at)))
-    (each_without_first IsQuestion (λ i. i.number == item.number) node.items (m.questions n))
+    (⊎_elim (λ same. inl (ap (λ (i : Item). i.message) same ∙ asks)) (λ still. inr still) (still_kept number node.items item x at x_at)))
+    (each_without_first (λ (i : Item). IsServable i.message) (λ i. i.number == item.number) node.items (m.servable n))) fit
   where
     number_of : (a b : ℕ) → (a == b) ≡ true → a ≡ b
     number_of a b e = ⊎_elim (λ t. t.1) (λ t. absurd (cc)) (tells a b)
+
+-- by the kind of the item
+kind_moves : (config : Config) (w : World) (came : ℕ → Bool) (n number : ℕ) (h : Ghost) (item : Item) (kind : Message) → IsCluster config → n < config.nodes → Shows config w h → IsMoving config w came
+    → item_of (w.nodes n) number ≡ Some item → item.message ≡ kind → can_serve (w.nodes n) kind ≡ true → All (λ (l : Letter). Fits l.message) (served (w.nodes n) item).sent → IsMoving config (After config w n (served (w.nodes n) item)) came
+kind_moves config w came n number h item (message.FetchAsk asker fetch key) cluster there s m at is can fit = question_moves config w came n number asker fetch key h item cluster there s m at is fit
+kind_moves config w came n number h item other cluster there s m at is can fit = absurd (cc)
+
+pub serve_moves : (config : Config) (w : World) (came : ℕ → Bool) (n number : ℕ) (h : Ghost) (item : Item) → IsCluster config → n < config.nodes → Shows config w h → IsMoving config w came
+    → item_of (w.nodes n) number ≡ Some item → can_serve (w.nodes n) item.message ≡ true → All (λ (l : Letter). Fits l.message) (served (w.nodes n) item).sent → IsMoving config (After config w n (served (w.nodes n) item)) came
+serve_moves config w came n number h item cluster there s m at can fit = kind_moves config w came n number h item item.message cluster there s m at refl can fit
 
 -- ---- a batch is executed
 
@@ -173,32 +178,32 @@ IsBack (out.Finish reply change) = Unit {0}
 IsBack (out.Opened ino) = ⊥
 IsBack out.PassOn = ⊥
 
-checked_back : (checks : List (Bool × Errno)) (o : ExecOut) → IsBack o → IsBack (checked checks o)
+checked_back : (checks : List (Bool × Errno)) (o : ExecOut) → IsBack o → IsBack (unless_refused checks o)
 checked_back [] o h = h
-checked_back (check ∷ checks) o h = elim check.0 as (λ b. IsBack (cond b (kept (Fail check.1)) (checked checks o))) [ true ↦ tt | false ↦ checked_back checks o h ]
+checked_back (check ∷ checks) o h = elim check.0 as (λ b. IsBack (cond b (without_change (Fail check.1)) (unless_refused checks o))) [ true ↦ tt | false ↦ checked_back checks o h ]
 
-found_back : (row : Option Inode) (go : Inode → ExecOut) → ((inode : Inode) → IsBack (go inode)) → IsBack (found row go)
+found_back : (row : Option Inode) (go : Inode → ExecOut) → ((inode : Inode) → IsBack (go inode)) → IsBack (where_found row go)
 found_back None go h = tt
 found_back (Some inode) go h = h inode
 
 make_back : (row : Option Inode) (parent : Option Dentry) (cred : Cred) (made : Inode) → IsBack (make_outcome row parent cred made)
-make_back row parent cred made = checked_back ((is_some row, Eexist) ∷ (not (parent_grants cred 2 parent), Eacces) ∷ []) (out.Finish Fine (Put made)) tt
+make_back row parent cred made = checked_back ((is_some row, Eexist) ∷ (not (kept_grants cred 2 parent), Eacces) ∷ []) (out.Finish Fine (Put made)) tt
 
 outcome_back : (row : Option Inode) (parent : Option Dentry) (cred : Cred) (call : Op) (fresh : ℕ) → IsTrue (is_served call) → IsBack (outcome_of row parent cred call fresh)
 outcome_back row parent cred (op.Mkdir path mode) fresh served = make_back row parent cred (new_row cred Dir mode fresh)
 outcome_back row parent cred (op.Create path mode) fresh served = make_back row parent cred (new_row cred File mode fresh)
-outcome_back row parent cred (op.Stat path) fresh served = found_back row (λ inode. kept (Stat inode)) (λ inode. tt)
+outcome_back row parent cred (op.Stat path) fresh served = found_back row (λ inode. without_change (Stat inode)) (λ inode. tt)
 outcome_back row parent cred (op.Access path want) fresh served =
-    found_back row (access_outcome cred want) (λ inode. checked_back ((not (grants cred want inode), Eacces) ∷ []) (kept Fine) tt)
+    found_back row (access_outcome cred want) (λ inode. checked_back ((not (grants cred want inode), Eacces) ∷ []) (without_change Fine) tt)
 outcome_back row parent cred (op.Truncate path size) fresh served =
     found_back row (truncate_outcome cred size) (λ inode. checked_back ((is_dir inode, Eisdir) ∷ (not (grants cred 2 inode), Eacces) ∷ []) (out.Finish Fine (Put (record inode { size = size }))) tt)
 outcome_back row parent cred (op.Unlink path) fresh served =
-    found_back row (unlink_outcome parent cred) (λ inode. checked_back ((not (parent_grants cred 2 parent), Eacces) ∷ (is_dir inode, Eperm) ∷ []) (out.Finish Fine Remove) tt)
+    found_back row (unlink_outcome parent cred) (λ inode. checked_back ((not (kept_grants cred 2 parent), Eacces) ∷ (is_dir inode, Eperm) ∷ []) (out.Finish Fine Remove) tt)
 outcome_back row parent cred other fresh served = absurd (cc)
 
 pub call_back : (number : ℕ) (rows : Tree) (drawn : ℕ) (x : BatchCall) → IsTrue (is_served x.call.op) → IsBack (call_outcome number rows drawn x)
 call_back number rows drawn x served =
-    elim x.denied as (λ b. IsBack (cond b (kept (Fail Eacces)) (outcome_of (row_at rows x.last) x.parent x.call.cred x.call.op (number_after number drawn)))) [
+    elim x.denied as (λ b. IsBack (cond b (without_change (Fail Eacces)) (outcome_of (row_at rows x.last) x.parent x.call.cred x.call.op (number_after number drawn)))) [
       | true ↦ tt
       | false ↦ outcome_back (row_at rows x.last) x.parent x.call.cred x.call.op (number_after number drawn) served
     ]
@@ -265,7 +270,7 @@ pub exec_moves : (config : Config) (w : World) (came : ℕ → Bool) (n number :
 unfolding executed with_executed
 exec_moves config w came n number h batch there s m at waits fit =
     let node = w.nodes n in
-    let found = find_in (λ (b : Batch). b.number == number) node.batches batch at in
-    let planned = batch_calls_are (PlannedAt h.call h.phase n) node.batches batch found.1 waits (s.held n).planned in
+    let where_found = find_in (λ (b : Batch). b.number == number) node.batches batch at in
+    let planned = batch_calls_are (PlannedAt h.call h.phase n) node.batches batch where_found.1 waits (s.held n).planned in
     let run = run_all config (begun (with_executed node number)) batch.calls (given_calls config w n h batch.calls s planned) tt in
     keeps_moving config w came n (executed node number batch) there fit m run.go (ap (λ (x : WaitList). x.calls) run.calls) run.items

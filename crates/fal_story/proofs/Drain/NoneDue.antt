@@ -20,7 +20,7 @@ use Rattle.fal_node.specs.State.{NodeState}
 use Rattle.fal_story.proofs.Drain.Actors.{IsActor}
 use Rattle.fal_story.proofs.Lists.Each.{Each}
 use Rattle.fal_story.specs.Clusters.{is_lane}
-use Rattle.fal_story.specs.Fresh.{is_actor, due_with, due_from, due, event_of, fresh_gets, fresh_at_node, fresh_at_coord, fresh_replies}
+use Rattle.fal_story.specs.Fresh.{is_actor, due_with, due_from, due, event_of_node, fresh_gets, fresh_at_node, fresh_at_coord, fresh_replies}
 use Rattle.fal_story.specs.World.{World}
 
 -- ---- lists that are empty
@@ -108,9 +108,9 @@ lane_due config w came l e there =
 
 node_due : (config : Config) (w : World) (came : ℕ → Bool) (n : ℕ) → fresh_replies config w came ≡ [] → n < config.nodes → (due (Node n) came w.envelopes ≡ []) × (dues (w.nodes n) ≡ [])
 node_due config w came n e there =
-    let parts = join_none (map (λ envelope. event.Deliver n envelope) (due (Node n) came w.envelopes)) (map (λ x. event_of n x) (dues (w.nodes n)))
+    let parts = join_none (map (λ envelope. event.Deliver n envelope) (due (Node n) came w.envelopes)) (map (λ x. event_of_node n x) (dues (w.nodes n)))
     (range_none (λ number. fresh_at_node w came number) 0 config.nodes n (none_at config w came e).1 (omega arith) (omega arith)) in
-    (map_none (λ envelope. event.Deliver n envelope) (due (Node n) came w.envelopes) parts.0, map_none (λ x. event_of n x) (dues (w.nodes n)) parts.1)
+    (map_none (λ envelope. event.Deliver n envelope) (due (Node n) came w.envelopes) parts.0, map_none (λ x. event_of_node n x) (dues (w.nodes n)) parts.1)
 
 came_if : (came : ℕ → Bool) (xs : List Envelope) (k : ℕ) (x : Envelope) → slice_get xs k ≡ Some x → due x.to came xs ≡ [] → came k ≡ true
 came_if came xs k x at e = subst (λ i. came i ≡ true) (from_nothing k) (due_none x.to came 0 xs k x e at (is_actor_itself x.to))

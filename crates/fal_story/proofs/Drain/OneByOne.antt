@@ -1,33 +1,24 @@
 -- A lane sends its next call only after the last one was answered.
-use Rattle.std.proofs.Common.{◌≡◌, ◌⊎◌, inl, inr, ⊎_elim, ℕ, zero, suc, ◌+◌, ◌<◌, ◌≤◌, ◌^◌, nat_lt, Bool, true, false, List, [], ◌∷◌, ◌++◌, length, take, Option, Some, None, refl, sym, ap, ◌∙◌, subst, arith}
+use Rattle.std.proofs.Common.{◌≡◌, inr, ℕ, zero, suc, ◌+◌, ◌<◌, ◌≤◌, ◌^◌, nat_lt, Bool, true, false, List, [], ◌∷◌, ◌++◌, length, take, Some, None, refl, sym, ap, ◌∙◌, subst, arith}
 use Rattle.std.specs.Prelude.{slice_get, IsSome}
 use Rattle.std.proofs.lemmas.Bool.Decides.{nat_tests}
 use Rattle.std.proofs.lemmas.Option.{none-some, same_Some}
 use Rattle.fal_base.specs.declared.call.Config.{Config}
 use Rattle.fal_base.specs.declared.entry.Entry.{Entry}
 use Rattle.fal_base.specs.declared.entry.Entry.TheVariants.{Sent, Commit, Opened, Placed, Stale, Answered}
-use Rattle.fal_base.specs.declared.event.Envelope.{Envelope}
 use Rattle.fal_base.specs.declared.event.Event.{Event}
-use Rattle.fal_base.specs.declared.event.Event.TheVariants as event
 use Rattle.fal_base.specs.EachOnce.{IsAnsweredBefore, AreOneByOne}
 use Rattle.fal_base.specs.Transcript.{sents}
-use Rattle.fal_client.specs.declared.event.ClientEvent.TheVariants as client
-use Rattle.fal_client.specs.State.{ClientState, Work as ClientWork}
-use Rattle.fal_client.specs.Step.{begun, skipped, answered, client_step}
-use Rattle.fal_node.specs.declared.event.NodeEvent.TheVariants as node
-use Rattle.fal_node.specs.Letters.{Work}
-use Rattle.fal_node.specs.Step.{node_step}
-use Rattle.fal_story.proofs.Drain.FollowRuns.{IsLive, legal_lives, step_follows, opening_live}
-use Rattle.fal_story.proofs.Drain.MovingRuns.{after_client, after_node, step_moves, legal_holds}
-use Rattle.fal_story.proofs.Events.EnabledClient as enabled
+use Rattle.fal_story.proofs.Drain.FollowRuns.{IsLive, step_follows, opening_live}
+use Rattle.fal_story.proofs.Drain.SendCounts.{step_sends}
+use Rattle.fal_story.proofs.Drain.MovingRuns.{step_moves, legal_holds}
 use Rattle.fal_story.proofs.Events.LegalRuns.{IsKept, step_kept}
-use Rattle.fal_story.proofs.Histories.Deeds.{deed_does, no_hear}
-use Rattle.fal_story.proofs.Lists.Grown.{put_all, slice_get_front, slice_get_below}
+use Rattle.fal_story.proofs.Histories.Deeds.{deed_does}
+use Rattle.fal_story.proofs.Lists.Grown.{slice_get_front, slice_get_below}
 use Rattle.fal_story.proofs.Trees.Once.{sents_past}
-use Rattle.fal_story.specs.Clusters.{IsCluster, is_lane, is_node}
-use Rattle.fal_story.specs.Fresh.{came_with, came}
-use Rattle.fal_story.specs.Machines.{only_where, client_hears, node_hears}
-use Rattle.fal_story.specs.Run.{IsLegal, Deed, client_deed, node_deed, deed, done, entries_at, run, step, transcript}
+use Rattle.fal_story.specs.Fresh.{came_with}
+use Rattle.fal_story.specs.Run.{IsLegal, deed, done, entries_at, run, step, transcript}
+use Rattle.fal_story.specs.Sending.{calls_sent_by}
 use Rattle.fal_story.specs.World.{World, posted, entries_of}
 
 -- ---- lists
@@ -49,52 +40,6 @@ sents_front l (suc j) (Stale a s old new ∷ xs) ys past = sents_front l j xs ys
 sents_front l (suc j) (Answered a s k r ∷ xs) ys past = sents_front l j xs ys (omega arith)
 
 -- ---- one event
-
--- the client sends no call, or one more while none is under way
-abbrev Paces : ClientState → ClientState → Type 0
-Paces c d = (d.seq ≡ c.seq) ⊎ ((d.seq ≡ c.seq + 1) × (c.current ≡ None))
-
-send_paces : (c : ClientState) (m : ClientWork) → client_step c client.Send ≡ Some m → Paces c m.client
-unfolding begun skipped
-send_paces c m is = enabled.sends c m (λ (y : ClientWork). Paces c y.client) (λ call none left good. inr (refl, none)) (λ call fault none left bad. inr (refl, none)) is
-
-get_paces : (config : Config) (w : World) (l number : ℕ) (x : Envelope) (m : ClientWork) → IsKept config w → slice_get w.envelopes number ≡ Some x → client_step (w.clients l) (client.Get x) ≡ Some m → Paces (w.clients l) m.client
-unfolding answered
-get_paces config w l number x m k at is =
-    enabled.gets config w l number k.ghost x m (λ (y : ClientWork). Paces (w.clients l) y.client) k.shows at (λ unheard. inl refl) (λ id reply current heard. inl refl) is
-
-module _ (config : Config) (w u : World) (l : ℕ) (k : IsKept config w) where
-  abbrev Here : World → Type 0
-  Here v = Paces (w.clients l) (v.clients l)
-
-  sent_paces : (m : ℕ) → done config (client_deed w m (only_where (is_lane config m) (client_step (w.clients m) client.Send))) ≡ Some u → Here u
-  unfolding posted
-  sent_paces m at =
-      after_client config w u m (client_step (w.clients m) client.Send) Here
-      (λ move there is. put_all (λ j s. Paces (w.clients j) s) w.clients m move.client (send_paces (w.clients m) move is) (λ j ne. inl refl) l) at
-
-  got_paces : (m number : ℕ) (o : Option Envelope) → slice_get w.envelopes number ≡ o → done config (client_deed w m (only_where (is_lane config m) (client_hears (w.clients m) o))) ≡ Some u → Here u
-  unfolding posted
-  got_paces m number None at is = after_client config w u m None Here (λ move there e. absurd (cc)) is
-  got_paces m number (Some x) at is =
-      after_client config w u m (client_step (w.clients m) (client.Get x)) Here
-      (λ move there e. put_all (λ j s. Paces (w.clients j) s) w.clients m move.client (get_paces config w m number x move k at e) (λ j ne. inl refl) l) is
-
-  node_paces : (n : ℕ) (o : Option Work) → done config (node_deed w n (only_where (is_node config n) o)) ≡ Some u → Here u
-  unfolding posted
-  node_paces n o at = after_node config w u n o Here (λ work there is. inl refl) at
-
-  step_paces : (e : Event) → step config w e ≡ Some u → Here u
-  unfolding deed
-  step_paces (event.Send m) at = sent_paces m at
-  step_paces (event.Get m number) at = got_paces m number (slice_get w.envelopes number) refl at
-  step_paces (event.Deliver n number) at = node_paces n (node_hears (w.nodes n) (slice_get w.envelopes number)) at
-  step_paces (event.Gather n) at = node_paces n (node_step (w.nodes n) node.Gather) at
-  step_paces (event.Exec n number) at = node_paces n (node_step (w.nodes n) (node.Exec number)) at
-  step_paces (event.Release n number) at = node_paces n (node_step (w.nodes n) (node.Release number)) at
-  step_paces (event.Serve n number) at = node_paces n (node_step (w.nodes n) (node.Serve number)) at
-  step_paces (event.Hear number) at = absurd (no_hear config w u number at)
-  step_paces event.Start at = absurd (cc)
 
 -- what is recorded stays in front
 entries_grow : (config : Config) (w u : World) (e : Event) → step config w e ≡ Some u → (news : List Entry) × (u.entries ≡ w.entries ++ news)
@@ -130,10 +75,12 @@ one_more config w u e c k kept live paced at j l s is some =
         let number : s + 1 ≡ sents l (take j u.entries) + 1 = (kept.shows.good.script.once.each.sent j l (s + 1) is).0 in
         let more = sents_past l (s + 1) j u.entries is in
         let front : sents l w.entries ≤ sents l (take j u.entries) = subst (λ es. sents l w.entries ≤ sents l (take j es)) (sym grown) (sents_front l j w.entries news past) in
-        ⊎_elim
-        (λ same. absurd (omega arith))
-        (λ next. let one = next.0 in let last : s ≡ (w.clients l).seq = omega arith in told news past (live.followed.over l s some (inr (last, next.1))))
-        (step_paces config w u l k e at)
+        let pace = step_sends config w u l k e at in
+        let seq = pace.seq in
+        let few = pace.few in
+        let some_call : 0 < calls_sent_by l e = omega arith in
+        let last : s ≡ (w.clients l).seq = omega arith in
+        told news past (live.followed.over l s some (inr (last, pace.idle some_call)))
       where
         told : (news : List Entry) → length w.entries ≤ j → (i : ℕ) × ((point : ℕ) × ((reply : _) × (slice_get w.entries i ≡ Some (Answered l s point reply)))) → IsAnsweredBefore (w.entries ++ news) j l s
         told news past t =

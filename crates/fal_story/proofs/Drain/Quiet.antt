@@ -1,35 +1,37 @@
 -- Where nothing but Send is fresh the cluster is quiet.
-use Rattle.std.proofs.Common.{◌≡◌, ◌≢◌, ℕ, zero, suc, ◌<◌, ◌≤◌, nat_lt, Bool, true, false, not, ◌&&◌, ◌||◌, cond, List, [], ◌∷◌, length, Option, Some, None, is_none, refl, sym, ap, subst, ◌∙◌, arith}
+use Rattle.std.proofs.Common.{◌≡◌, ℕ, zero, suc, ◌<◌, ◌≤◌, nat_lt, Bool, true, false, not, ◌&&◌, ◌||◌, cond, List, [], ◌∷◌, length, Option, Some, None, is_none, refl, sym, ap, subst, ◌∙◌, arith}
 use Rattle.std.specs.Prelude.{slice_get, ◌==◌, IsSome}
-use Rattle.std.specs.List.{list_all, list_any}
+use Rattle.std.specs.List.{list_all}
 use Rattle.std.proofs.lemmas.Bool.Decides.{nat_tests}
 use Rattle.fal_base.specs.declared.call.Config.{Config}
 use Rattle.fal_base.specs.declared.event.Envelope.{Envelope}
 use Rattle.fal_base.specs.declared.event.Event.{Event}
 use Rattle.fal_base.specs.declared.key.Key.{Key}
 use Rattle.fal_batch.specs.Fate.{Setting, Fate, Skips, Leaves, Waits, Joins, fate, bars}
-use Rattle.fal_batch.specs.Plan.{tickets_differ, no_plan, free_calls, is_idle, is_skipped, is_skipped_by}
+use Rattle.fal_batch.specs.Plan.{no_plan, free_calls, is_idle, is_skipped, is_skipped_by}
 use Rattle.fal_batch.proofs.Empty.{idle_calls}
 use Rattle.fal_batch.proofs.FreeCalls.{free_of, free_calls_are}
 use Rattle.fal_coord.specs.State.{opening_coord, is_quiet as is_coord_quiet}
 use Rattle.fal_locks.specs.Keys.{has_key}
-use Rattle.fal_locks.specs.Locks.{LockTable, is_shut, keys_of}
+use Rattle.fal_locks.specs.Locks.{LockTable, is_shut, shut_keys_of}
 use Rattle.fal_node.specs.declared.item.Item.{Item}
 use Rattle.fal_node.specs.Due.{is_quiet}
 use Rattle.fal_node.specs.Gather.{setting_at, plan_at}
 use Rattle.fal_node.specs.Serve.{can_serve, owns}
 use Rattle.fal_node.specs.State.{blocked_names, NodeState}
 use Rattle.fal_wait.specs.declared.waiting_call.WaitingCall.{WaitingCall}
+use Rattle.fal_wire.specs.declared.message.Message.{Message}
+use Rattle.fal_wire.specs.declared.message.Message.TheVariants as message
 use Rattle.fal_story.proofs.Drain.Actors.{IsActor}
-use Rattle.fal_story.proofs.Drain.Moving.{IsMoving, IsQuestion, items_in}
+use Rattle.fal_story.proofs.Drain.Moving.{IsMoving, IsServable, items_in}
 use Rattle.fal_story.proofs.Drain.MovingRuns.{legal_moves}
 use Rattle.fal_story.proofs.Drain.NoneDue.{NoneFresh, none_fresh, none_due}
 use Rattle.fal_story.proofs.Drain.Unheard.{coord_rests}
 use Rattle.fal_story.proofs.Drain.OnWay.{IsOnWay, Asks, Keeps, Gets}
 use Rattle.fal_story.proofs.Events.Going.{GoesOn, fates_go}
-use Rattle.fal_story.proofs.Events.Shows.{Ghost, Shows, IsPlaced, IsTidy, posts_of}
-use Rattle.fal_story.proofs.Lists.Each.{Each, Apart, each_weaker, each_both}
-use Rattle.fal_story.proofs.Lists.Grown.{unequal}
+use Rattle.fal_story.proofs.Events.Shows.{Ghost, Shows, IsTidy, posts_of}
+use Rattle.fal_story.proofs.Lists.Each.{Each, each_weaker, each_both}
+use Rattle.fal_story.proofs.Lists.GatherLists.{tickets_apart}
 use Rattle.fal_story.proofs.Lists.Members.{IsIn, each_in, in_at}
 use Rattle.fal_story.proofs.Lists.WaitLists.{rising_apart}
 use Rattle.fal_story.proofs.View.{Post}
@@ -41,20 +43,25 @@ use Rattle.fal_story.specs.World.{World}
 -- ---- items
 
 none_shut : (locks : LockTable) (key : Key) → locks.shut ≡ None → is_shut locks key ≡ false
-none_shut locks key none = ap (λ o. has_key (keys_of o) key) none
+none_shut locks key none = ap (λ o. has_key (shut_keys_of o) key) none
 
--- nothing is blocked or shut, so each question can be served
-question_served : (config : Config) (n : ℕ) (node : NodeState) (item : Item) → IsPlaced config n node → node.locks.shut ≡ None → IsQuestion item → can_serve node item.message ≡ true
-question_served config n node item p none q =
-    let key = q.1.1.0 in
-    ap (can_serve node) q.1.1.1
-    ∙ ap (λ b. not (bars (blocked_names b) key.name) && (not (owns node key) || not (is_shut node.locks key))) p.blocked
-    ∙ ap (λ b. not (owns node key) || not b) (none_shut node.locks key none)
+-- nothing at the node holds an item back
+pub record HoldsNothing (node : NodeState) : Type 0 where
+  pub batches : node.batches ≡ []
+  pub shut : node.locks.shut ≡ None
+  pub blocked : node.blocked ≡ None
+
+-- so each item can be served, of whichever kind
+item_served : (node : NodeState) (kind : Message) → HoldsNothing node → IsServable kind → can_serve node kind ≡ true
+item_served node (message.FetchAsk asker number key) free can =
+    ap (λ b. not (bars (blocked_names b) key.name) && (not (owns node key) || not (is_shut node.locks key))) free.blocked
+    ∙ ap (λ b. not (owns node key) || not b) (none_shut node.locks key free.shut)
     ∙ or_true (not (owns node key))
   where
     or_true : (b : Bool) → (b || true) ≡ true
     or_true true = refl
     or_true false = refl
+item_served node other free can = absurd can
 
 no_items : (items : List Item) → Each (λ (i : Item). ⊥) items → items ≡ []
 no_items [] h = refl
@@ -89,24 +96,12 @@ free_skipped s (x ∷ xs) h =
     second true b e = e
     second false b e = absurd (cc)
 
--- no two calls of a list have one ticket
-pub tickets_differ_of : (ws : List WaitingCall) → Apart (λ w. w.ticket) ws → tickets_differ ws ≡ true
-tickets_differ_of [] h = refl
-tickets_differ_of (w ∷ ws) h = both (not (list_any (λ v. v.ticket == w.ticket) ws)) (tickets_differ ws) (ap not (no_other w ws h.0)) (tickets_differ_of ws h.1)
-  where
-    no_other : (w : WaitingCall) (ws : List WaitingCall) → Each (λ v. v.ticket ≢ w.ticket) ws → list_any (λ v. v.ticket == w.ticket) ws ≡ false
-    no_other w [] h = refl
-    no_other w (v ∷ vs) h = ap (λ b. b || list_any (λ x. x.ticket == w.ticket) vs) (unequal v.ticket w.ticket h.0) ∙ no_other w vs h.1
-
-    both : (a b : Bool) → a ≡ true → b ≡ true → (a && b) ≡ true
-    both a b p q = ap (λ x. x && b) p ∙ q
-
 -- an idle plan skips each free call
 idle_skips : (node : NodeState) → IsTidy node.waiting → is_idle (plan_at node) ≡ true → Each (λ (x : WaitingCall). x.fetch ≡ None → is_skipped (setting_at node) x.call ≡ true) node.waiting.calls
 unfolding plan_at
 idle_skips node tidy idle =
     let s = setting_at node in
-    let free : free_calls node.waiting ≡ free_of node.waiting.calls = free_calls_are node.waiting (tickets_differ_of node.waiting.calls (rising_apart node.waiting.calls node.waiting.tickets tidy.tickets)) in
+    let free : free_calls node.waiting ≡ free_of node.waiting.calls = free_calls_are node.waiting (tickets_apart node.waiting.calls (rising_apart node.waiting.calls node.waiting.tickets tidy.tickets)) in
     free_skipped s node.waiting.calls (ap (list_all (λ w. is_skipped s w.call)) (sym free) ∙ sym (idle_calls s no_plan (free_calls node.waiting)) ∙ idle)
 
 -- ---- a cluster
@@ -142,7 +137,9 @@ module _ (config : Config) (w : World) (c : ℕ → Bool) (cluster : IsCluster c
   items_none : (n : ℕ) → n < config.nodes → (w.nodes n).items ≡ []
   items_none n there =
       let due = none_due (w.nodes n) (none.no_dues n there) in
-      no_items (w.nodes n).items (each_both IsQuestion (λ (i : Item). can_serve (w.nodes n) i.message ≡ false) (λ i. ⊥) (w.nodes n).items (λ i q z. let can = question_served config n (w.nodes n) i (s.placed n) (s.good.operation.stands n there).1 q in absurd (cc)) (m.questions n) due.items)
+      let free : HoldsNothing (w.nodes n) = record { batches = due.batches; shut = (s.good.operation.stands n there).1; blocked = (s.placed n).blocked } in
+      no_items (w.nodes n).items
+      (each_both (λ (i : Item). IsServable i.message) (λ (i : Item). can_serve (w.nodes n) i.message ≡ false) (λ i. ⊥) (w.nodes n).items (λ i is held. let can = item_served (w.nodes n) i.message free is in absurd (cc)) (m.servable n) due.items)
 
   -- nor does a node that is not there
   no_item : (n : ℕ) → (w.nodes n).items ≡ []

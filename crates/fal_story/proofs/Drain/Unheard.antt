@@ -13,7 +13,7 @@ use Rattle.fal_story.proofs.Drain.MovingRuns.{legal_moves}
 use Rattle.fal_story.proofs.Histories.Replays.{agrees}
 use Rattle.fal_story.proofs.Lists.Each.{Each}
 use Rattle.fal_story.specs.Actors.{is_actor, own_events}
-use Rattle.fal_story.specs.Fresh.{due_with, due_from, due, fresh_at_coord, came}
+use Rattle.fal_story.specs.Fresh.{due_with, due_from, fresh_at_coord, came}
 use Rattle.fal_story.specs.Machines.{Machine, CoordMachine, envelope_named, machine_step}
 use Rattle.fal_story.specs.Replay.{machine_after, replay_from, replay}
 use Rattle.fal_story.specs.Run.{IsLegal, run}

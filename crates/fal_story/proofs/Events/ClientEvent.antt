@@ -33,7 +33,7 @@ use Rattle.fal_client.specs.News.{news_of}
 use Rattle.fal_base.specs.OpPaths.{bad_path}
 use Rattle.fal_client.specs.Paths.{addressee, node_for}
 use Rattle.fal_client.specs.State.{ClientState, Work as ClientWork, unchanged}
-use Rattle.fal_client.specs.Step.{client_step, sent_next, started, begun, skipped, taken, first_try, letter_to, id_at, is_lane as is_for, got, read_step, heard, heard_by, is_about, told, replied, answered}
+use Rattle.fal_client.specs.Step.{client_step, sent_next, started, begun, skipped, taken, first_try, letter_to, id_at, is_to_lane as is_for, got, read_step, heard, heard_by, is_about, news_told, replied, answered}
 use Rattle.fal_place.specs.Placement.{Placement, route}
 use Rattle.fal_node.specs.declared.batch.BatchCall.{BatchCall}
 use Rattle.fal_node.specs.declared.item.Item.{Item}
@@ -342,7 +342,7 @@ answers config w l h number p id reply current s at busy last =
 
 replies : (config : Config) (w : World) (l : ℕ) (h : Ghost) (number p : ℕ) (id : CallId) (reply : Reply) (current : Current) → Shows config w h → IsPosted (posts_of w.envelopes) number (Client l) p (message.Reply id reply)
     → (w.clients l).current ≡ Some current → EndsClient config w l (heard_by (w.clients l) current p (Some (id, news.Replied reply)))
-unfolding heard_by told replied
+unfolding heard_by news_told replied
 replies config w l h number p id reply current s at busy =
     let c = w.clients l in
     let none = ((s.heard l).some current busy).3 in

@@ -17,7 +17,7 @@ use Rattle.fal_node.specs.declared.item.Item.{Item}
 use Rattle.fal_node.specs.Deliver.{admitted, take_call, take_message, take_read, delivered}
 use Rattle.fal_node.specs.Letters.{Work, begun, is_asker}
 use Rattle.fal_node.specs.State.{NodeState, with_item}
-use Rattle.fal_node.specs.Step.{is_node, only_if, node_step}
+use Rattle.fal_node.specs.Step.{is_to_node, only_if, node_step}
 use Rattle.fal_wait.specs.declared.waiting_call.WaitingCall.{WaitingCall}
 use Rattle.fal_base.specs.Marks.{mark_of, with_mark}
 use Rattle.fal_wait.specs.Waiting.{is_new, with_call}
@@ -149,7 +149,7 @@ read_event config w n h e p (Ok m) there other s at fit = message_event config w
 read_event config w n h e p (Err fault) there other s at fit = stays config w n h s fit
 
 -- an event that is enabled came to this node
-for_node : (to : Actor) (number : ℕ) (k work : Work) → only_if (is_node to number) k ≡ Some work → (to ≡ Node number) × (k ≡ work)
+for_node : (to : Actor) (number : ℕ) (k work : Work) → only_if (is_to_node to number) k ≡ Some work → (to ≡ Node number) × (k ≡ work)
 for_node (Client lane) number k work is = absurd (cc)
 for_node Coord number k work is = absurd (cc)
 for_node (Node m) number k work is =

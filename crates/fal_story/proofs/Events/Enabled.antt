@@ -1,8 +1,11 @@
 -- What a node's step makes of an event, where that is enabled.
-use Rattle.std.proofs.Common.{◌≡◌, ℕ, Bool, true, false, cond, Option, Some, None, refl, subst}
+use Rattle.std.proofs.Common.{◌≡◌, ℕ, Bool, true, false, cond, List, [], Option, Some, None, refl, ap, subst}
 use Rattle.std.proofs.lemmas.Option.{same_Some}
 use Rattle.fal_base.specs.declared.event.Envelope.{Envelope}
 use Rattle.fal_batch.specs.Plan.{is_idle}
+use Rattle.fal_wire.specs.declared.letter.Letter.{Letter}
+use Rattle.fal_wire.specs.declared.message.Message.{Message}
+use Rattle.fal_wire.specs.declared.message.Message.TheVariants as message
 use Rattle.fal_node.specs.declared.batch.Batch.{Batch}
 use Rattle.fal_node.specs.declared.event.NodeEvent.TheVariants.{Deliver, Gather, Exec, Release, Serve}
 use Rattle.fal_node.specs.declared.item.Item.{Item}
@@ -10,17 +13,17 @@ use Rattle.fal_node.specs.Deliver.{delivered}
 use Rattle.fal_node.specs.Exec.{execute, executed}
 use Rattle.fal_node.specs.Gather.{plan_at, gathered}
 use Rattle.fal_node.specs.Letters.{Work, begun}
-use Rattle.fal_node.specs.Serve.{can_serve, serve, served}
-use Rattle.fal_node.specs.State.{NodeState, batch_of, item_of, released}
-use Rattle.fal_node.specs.Step.{node_step, is_node, only_if, release}
+use Rattle.fal_node.specs.Serve.{can_serve, serve, served, service_of}
+use Rattle.fal_node.specs.State.{NodeState, batch_of, item_of, released, without_item}
+use Rattle.fal_node.specs.Step.{node_step, is_to_node, only_if, release}
 
 made_if : (b : Bool) (x k : Work) (P : Work → Type 0) → (b ≡ true → P x) → only_if b x ≡ Some k → P k
 made_if true x k P f is = subst P (same_Some x k is) (f refl)
 made_if false x k P f is = absurd (cc)
 
-pub delivers : (node : NodeState) (envelope : Envelope) (k : Work) (P : Work → Type 0) → (is_node envelope.to node.number ≡ true → P (delivered node envelope)) → node_step node (Deliver envelope) ≡ Some k → P k
+pub delivers : (node : NodeState) (envelope : Envelope) (k : Work) (P : Work → Type 0) → (is_to_node envelope.to node.number ≡ true → P (delivered node envelope)) → node_step node (Deliver envelope) ≡ Some k → P k
 unfolding node_step
-delivers node envelope k P f is = made_if (is_node envelope.to node.number) (delivered node envelope) k P f is
+delivers node envelope k P f is = made_if (is_to_node envelope.to node.number) (delivered node envelope) k P f is
 
 pub gathers : (node : NodeState) (k : Work) (P : Work → Type 0) → P (gathered node (plan_at node)) → node_step node Gather ≡ Some k → P k
 unfolding node_step
@@ -64,3 +67,20 @@ pub serves : (node : NodeState) (number : ℕ) (k : Work) (P : Work → Type 0) 
     → node_step node (Serve number) ≡ Some k → P k
 unfolding node_step
 serves node number k P f is = serves_at node k P (item_of node number) f is
+
+-- the records that serve the item
+abbrev pub served_letters : NodeState → Message → List Letter
+served_letters node m = (service_of node m).work.sent
+
+-- records go out, the item is gone, and nothing else changes
+abbrev pub only_sends : NodeState → Item → Work
+only_sends node item = record { node = without_item node item.number; sent = served_letters node item.message; notes = [] }
+
+service_is : (node : NodeState) (m : Message) → (service_of node m).work ≡ record { node = node; sent = served_letters node m; notes = [] }
+service_is node (message.FetchAsk asker number key) = refl
+service_is node other = refl
+
+-- each item of today is served by records alone
+pub served_is : (node : NodeState) (item : Item) → served node item ≡ only_sends node item
+unfolding served
+served_is node item = ap (λ (k : Work). record k { node = without_item k.node item.number }) (service_is node item.message)

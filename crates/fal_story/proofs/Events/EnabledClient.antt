@@ -17,7 +17,7 @@ use Rattle.fal_client.specs.declared.news.News.TheVariants as news
 use Rattle.fal_client.specs.News.{news_of}
 use Rattle.fal_base.specs.OpPaths.{bad_path}
 use Rattle.fal_client.specs.State.{ClientState, Work as ClientWork, unchanged}
-use Rattle.fal_client.specs.Step.{client_step, got, is_lane as is_for, read_step, heard, heard_by, told, replied, answered, is_about, id_at, sent_next, started, begun, skipped}
+use Rattle.fal_client.specs.Step.{client_step, got, is_to_lane as is_for, read_step, heard, heard_by, news_told, replied, answered, is_about, sent_next, started, begun, skipped}
 use Rattle.fal_wire.specs.declared.fault.WireFault.{WireFault}
 use Rattle.fal_wire.specs.declared.message.Message.{Message}
 use Rattle.fal_wire.specs.declared.message.Message.TheVariants as message
@@ -77,9 +77,9 @@ pub record IsAnswered (w : World) (l : ℕ) (x : Envelope) (id : CallId) (reply 
 abbrev pub Hears : World → ℕ → Envelope → (ClientWork → Type 0) → Type 0
 Hears w l x P = (id : CallId) (reply : Reply) (current : Current) → IsAnswered w l x id reply current → P (answered (w.clients l) x.point reply)
 
--- the record that comes is not the answer to the current call
+-- the record that comes is not the answer to the current attempt of the call, however often that was passed on
 abbrev pub IsUnheard : World → ℕ → Envelope → Type 0
-IsUnheard w l x = (current : Current) (reply : Reply) → (w.clients l).current ≡ Some current → reading x.bytes ≡ Ok (message.Reply (id_at l (w.clients l).seq 1) reply) → ⊥
+IsUnheard w l x = (current : Current) (id : CallId) (reply : Reply) → (w.clients l).current ≡ Some current → id.seq ≡ (w.clients l).seq → id.attempt ≡ current.attempt → reading x.bytes ≡ Ok (message.Reply id reply) → ⊥
 
 both_first : (a b : Bool) → (a && b) ≡ true → a ≡ true
 both_first true b e = refl
@@ -87,23 +87,24 @@ both_first false b e = absurd (cc)
 
 replies : (config : Config) (w : World) (l : ℕ) (h : Ghost) (x : Envelope) (id : CallId) (reply : Reply) (current : Current) (P : ClientWork → Type 0) → Shows config w h → reading x.bytes ≡ Ok (message.Reply id reply)
     → (w.clients l).current ≡ Some current → (IsUnheard w l x → P (unchanged (w.clients l))) → Hears w l x P → P (heard_by (w.clients l) current x.point (Some (id, news.Replied reply)))
-unfolding heard_by told replied
+unfolding heard_by news_told replied
 replies config w l h x id reply current P s read busy rest hear =
     let c = w.clients l in
     let none = ((s.heard l).some current busy).3 in
     elim (is_about c current id) as (λ b. is_about c current id ≡ b → P (cond b (replied c x.point reply current.listing) (unchanged c))) [
       | true ↦ λ e. subst (λ o. P (replied c x.point reply o)) (sym none) (hear id reply current (record { busy = busy; read = read; seq = eqb-true id.seq c.seq (both_first (id.seq == c.seq) (id.attempt == current.attempt) e) }))
-      | false ↦ λ e. rest (λ other told at is. absurd (about_is e (reply_id id (id_at l c.seq 1) reply told (sym read ∙ is))))
+      | false ↦ λ e. rest (λ other j news_told at seq attempt is.
+          let same : id ≡ j = reply_id id j reply news_told (sym read ∙ is) in
+          let mine : other ≡ current = same_Some other current (sym at ∙ busy) in
+          absurd (about_is e (ap (λ (i : CallId). i.seq) same ∙ seq) (ap (λ (i : CallId). i.attempt) same ∙ attempt ∙ ap (λ (y : Current). y.attempt) mine)))
     ] refl
   where
     reply_id : (a b : CallId) (r t : Reply) → ◌≡◌ {A = Result Message WireFault} (Ok (message.Reply a r)) (Ok (message.Reply b t)) → a ≡ b
     reply_id a b r t e = cc
 
-    about_is : is_about (w.clients l) current id ≡ false → id ≡ id_at l (w.clients l).seq 1 → ⊥
-    about_is e same =
-        let attempt = ((s.heard l).some current busy).2 in
-        let here : is_about (w.clients l) current id ≡ true =
-        ap (λ b. b && (id.attempt == current.attempt)) (eq-eqb id.seq (w.clients l).seq (ap (λ (i : CallId). i.seq) same)) ∙ eq-eqb id.attempt current.attempt (ap (λ (i : CallId). i.attempt) same ∙ sym attempt) in
+    about_is : is_about (w.clients l) current id ≡ false → id.seq ≡ (w.clients l).seq → id.attempt ≡ current.attempt → ⊥
+    about_is e seq attempt =
+        let here : is_about (w.clients l) current id ≡ true = ap (λ b. b && (id.attempt == current.attempt)) (eq-eqb id.seq (w.clients l).seq seq) ∙ eq-eqb id.attempt current.attempt attempt in
         absurd (cc)
 
 hears : (config : Config) (w : World) (l number : ℕ) (h : Ghost) (x : Envelope) (m : Message) (P : ClientWork → Type 0) → Shows config w h → slice_get w.envelopes number ≡ Some x → x.to ≡ Client l → reading x.bytes ≡ Ok m
@@ -111,7 +112,7 @@ hears : (config : Config) (w : World) (l number : ℕ) (h : Ghost) (x : Envelope
 unfolding heard news_of
 hears config w l number h x (message.Reply id reply) P s at to read rest hear =
     elim (w.clients l).current as (λ o. (w.clients l).current ≡ o → P (heard (w.clients l) x.point (Some (id, news.Replied reply)) o)) [
-      | None ↦ λ e. rest (λ current told at is. let wrong : None ≡ Some current = sym e ∙ at in absurd (cc))
+      | None ↦ λ e. rest (λ current id news_told at seq attempt is. let wrong : None ≡ Some current = sym e ∙ at in absurd (cc))
       | Some current ↦ λ e. replies config w l h x id reply current P s read e rest hear
     ] refl
 hears config w l number h x other P s at to read rest hear =
@@ -120,7 +121,7 @@ hears config w l number h x other P s at to read rest hear =
 reads : (config : Config) (w : World) (l number : ℕ) (h : Ghost) (x : Envelope) (read : Result Message WireFault) (P : ClientWork → Type 0) → Shows config w h → slice_get w.envelopes number ≡ Some x → x.to ≡ Client l
     → reading x.bytes ≡ read → (IsUnheard w l x → P (unchanged (w.clients l))) → Hears w l x P → P (read_step (w.clients l) x.point read)
 unfolding read_step
-reads config w l number h x (Err fault) P s at to is rest hear = rest (λ current told busy z. let wrong : Err fault ≡ Ok (message.Reply (id_at l (w.clients l).seq 1) told) = sym is ∙ z in absurd (cc))
+reads config w l number h x (Err fault) P s at to is rest hear = rest (λ current id news_told busy seq attempt z. let wrong : Err fault ≡ Ok (message.Reply id news_told) = sym is ∙ z in absurd (cc))
 reads config w l number h x (Ok m) P s at to is rest hear = hears config w l number h x m P s at to is rest hear
 
 pub gets : (config : Config) (w : World) (l number : ℕ) (h : Ghost) (x : Envelope) (m : ClientWork) (P : ClientWork → Type 0) → Shows config w h → slice_get w.envelopes number ≡ Some x

@@ -15,7 +15,7 @@ use Rattle.fal_base.specs.Tree.{row_at}
 use Rattle.fal_exec.specs.declared.outcome.Change.{Change}
 use Rattle.fal_exec.specs.declared.outcome.Change.TheVariants as change
 use Rattle.fal_exec.specs.declared.outcome.ExecOut.TheVariants as out
-use Rattle.fal_exec.specs.Outcome.{kept, outcome_of}
+use Rattle.fal_exec.specs.Outcome.{without_change, outcome_of}
 use Rattle.fal_node.specs.declared.batch.Batch.{Batch}
 use Rattle.fal_node.specs.declared.batch.BatchCall.{BatchCall}
 use Rattle.fal_node.specs.Exec.{number_after, call_outcome, rows_after, drawn_by, commit_notes, exec_as, exec_one}
@@ -215,14 +215,14 @@ leaves config w n k h list bs xs x ys reply ch s at good counted =
 -- ---- by its outcome
 
 denied_outcome : (k : Work) (x : BatchCall) → x.denied ≡ true → call_outcome k.node.number k.node.rows k.node.drawn x ≡ out.Finish (Fail Eacces) change.Keep
-denied_outcome k x denied = ap (λ b. cond b (kept (Fail Eacces)) (outcome_of (row_at k.node.rows x.last) x.parent x.call.cred x.call.op (number_after k.node.number k.node.drawn))) denied
+denied_outcome k x denied = ap (λ b. cond b (without_change (Fail Eacces)) (outcome_of (row_at k.node.rows x.last) x.parent x.call.cred x.call.op (number_after k.node.number k.node.drawn))) denied
 
 ready_outcome : (config : Config) (w : World) (n : ℕ) (k : Work) (h : Ghost) (x : BatchCall) (reply : Reply) (ch : Change) → PlannedAt h.call h.phase n x → k.node.number ≡ n → x.denied ≡ false → IsOutcome (view_in config w n k h) (planned_lane x) n x reply ch
     → call_outcome k.node.number k.node.rows k.node.drawn x ≡ out.Finish reply ch
 ready_outcome config w n k h x reply ch at number ready outcome =
     let rows = sym (put_same (λ m. (w.nodes m).rows) n k.node.rows) in
     let drawn = sym (put_same (λ m. (w.nodes m).drawn) n k.node.drawn) in
-    ap (λ b. cond b (kept (Fail Eacces)) (outcome_of (row_at k.node.rows x.last) x.parent x.call.cred x.call.op (number_after k.node.number k.node.drawn))) ready
+    ap (λ b. cond b (without_change (Fail Eacces)) (outcome_of (row_at k.node.rows x.last) x.parent x.call.cred x.call.op (number_after k.node.number k.node.drawn))) ready
     ∙ (λ i. outcome_of (row_at (rows i) x.last) x.parent (at.1 i).cred (at.1 i).op (number_after (number i) (drawn i)))
     ∙ outcome
 

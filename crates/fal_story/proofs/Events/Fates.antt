@@ -1,143 +1,87 @@
--- What becomes of a call that waits at a node: it waits for a directory on its way, or it is ready, as the tree says.
-use Rattle.std.proofs.Common.{◌≡◌, ℕ, suc, ◌-◌, ◌==◌, Bool, true, false, not, ◌&&◌, ◌||◌, cond, List, [], ◌∷◌, ◌++◌, length, Option, Some, None, IsTrue, refl, sym, ap, subst, ◌∙◌, arith, eq-eqb}
-use Rattle.std.specs.Prelude.{slice_get, IsSomeAnd}
+-- What becomes of a call that waits at a node, by what the node has at hand and by the tree: it is skipped, leaves, waits for a directory on its way, or is ready.
+use Rattle.std.proofs.Common.{◌≡◌, ◌≢◌, ◌⊎◌, inl, inr, ⊎_elim, ℕ, suc, ◌-◌, ◌==◌, Bool, true, false, not, ◌&&◌, if◌then◌else◌, List, [], ◌∷◌, ◌++◌, length, Option, Some, None, IsSomeAnd, refl, sym, ap, subst, ◌∙◌, append-nil, arith}
+use Rattle.std.specs.Prelude.{slice_get}
+use Rattle.std.specs.List.{All}
+use Rattle.std.specs.Option.{option_map}
 use Rattle.std.proofs.lemmas.Bool.Decides.{nat_tests}
-use Rattle.fal_base.specs.declared.barred.Barred.TheVariants.{Nothing}
+use Rattle.std.proofs.lemmas.List.Elements.{All-nil, All-push}
 use Rattle.fal_base.specs.declared.call.CallRec.{CallRec}
-use Rattle.fal_base.specs.declared.call.Config.{Config}
-use Rattle.fal_base.specs.declared.call.Cred.{Cred}
-use Rattle.fal_base.specs.declared.event.Actor.TheVariants.{Node}
 use Rattle.fal_base.specs.declared.inode.Dentry.{Dentry}
 use Rattle.fal_base.specs.declared.inode.Inode.{Inode}
 use Rattle.fal_base.specs.declared.key.Key.{Key}
 use Rattle.fal_base.specs.declared.op.Op.{Op}
-use Rattle.fal_base.specs.declared.op.Op.TheVariants as op
-use Rattle.fal_base.specs.declared.path.PathArg.TheVariants.{Good, Bad}
-use Rattle.fal_base.specs.declared.reply.Errno.TheVariants.{Eacces, Enotdir}
-use Rattle.fal_base.specs.Maps.{value_at}
-use Rattle.fal_base.specs.Tree.{Tree, row_at, key_of, root_key, same_key}
-use Rattle.fal_base.specs.Walk.{Walked, is_dir, grants, dentry_of, dentry_grants, into, passing, walk, walk_from}
-use Rattle.fal_base.specs.Walk as tree_walk
-use Rattle.fal_base.proofs.Maps.{same_key_is}
-use Rattle.fal_batch.specs.Fate.{Setting, Fate, Skips, Leaves, Waits, Joins, fate, fate_by, fate_at, fate_walked, is_blocked, is_elsewhere, last_of, walk_of, away_to, goes_by_parent}
-use Rattle.fal_base.specs.OpPaths.{op_names}
-use Rattle.fal_client.specs.Paths.{addressee}
-use Rattle.fal_dentry.specs.TreeWalk.{through, way_from, way, last_name, last_key}
-use Rattle.fal_dentry.specs.Walk.{Dentries, ReplicaWalk, Shut, Missing, Stop, Ready, is_among, past, into_dir, walk_on}
-use Rattle.fal_exec.specs.RowCall.{row_names}
-use Rattle.fal_locks.specs.Locks.{keys_of}
-use Rattle.fal_node.specs.declared.batch.BatchCall.{BatchCall}
-use Rattle.fal_node.specs.Gather.{setting_at}
-use Rattle.fal_node.specs.State.{blocked_names, NodeState}
-use Rattle.fal_place.specs.Placement.{Placement, rule_found, owner, owner_by, route, route_of_last, opening_table, is_root_key}
-use Rattle.fal_wire.specs.Format.{AreItems}
+use Rattle.fal_base.specs.declared.reply.Errno.{Errno}
+use Rattle.fal_base.specs.declared.reply.Errno.TheVariants.{Eacces}
+use Rattle.fal_base.specs.declared.rule.Rule.{Rule}
+use Rattle.fal_base.specs.declared.rule.Rule.TheVariants.{Hash, ByParent, Node as Placed}
 use Rattle.fal_base.specs.Names.{is_name}
-use Rattle.fal_wire.specs.Names.{name_field, path_names, path_field, path_arg_field}
-use Rattle.fal_wire.specs.Ops.{op_field, path_and_mode, path_and_want, path_and_size}
-use Rattle.std.specs.List.{All}
-use Rattle.fal_story.proofs.Events.Shows.{IsPlaced}
-use Rattle.fal_story.proofs.Families.Asking.{Crosses, IsCrossed}
-use Rattle.fal_story.proofs.Trees.Changed.{up_to, passes_in}
-use Rattle.fal_story.proofs.Trees.Footprint.{footprint, footprint_of, last_of_walk, among_front, among_end, all_up_to}
-use Rattle.fal_story.proofs.Families.Plans.{IsPlanned, IsPlannedAs}
-use Rattle.fal_story.proofs.Lists.Grown.{or_second}
-use Rattle.fal_story.proofs.Trees.Standing.{HasDir, Reaches, table_of}
-use Rattle.fal_story.specs.Clusters.{is_served}
+use Rattle.fal_base.specs.OpPaths.{op_names}
+use Rattle.fal_base.specs.Tree.{Tree, root_key}
+use Rattle.fal_base.specs.Walk.{dentry_of, walk}
+use Rattle.fal_base.specs.Walk as tree_walk
+use Rattle.fal_batch.specs.Fate.{Setting, Fate, Skips, Leaves, Waits, Joins, fate, fate_by, fate_at, fate_walked, is_blocked, is_by_parent, is_elsewhere, last_of, walk_of, away_to, goes_by_parent}
+use Rattle.fal_batch.proofs.Truth.{and_is_false}
+use Rattle.fal_dentry.specs.TreeWalk.{way, last_name, last_key}
+use Rattle.fal_dentry.specs.Walk.{ReplicaWalk, Shut, Missing, Stop, Ready, is_among}
+use Rattle.fal_exec.specs.RowCall.{is_rmdir, row_names}
+use Rattle.fal_place.specs.Placement.{Placement, is_root_key, owner, owner_by, route, route_by, route_of_last, rule_of}
+use Rattle.fal_wire.specs.Format.{AreItems}
+use Rattle.fal_wire.specs.Names.{name_field, path_names, path_field}
+use Rattle.fal_story.proofs.Families.Asking.{IsCrossed}
+use Rattle.fal_story.proofs.Families.Plans.{IsPlannedAs}
+use Rattle.fal_story.proofs.Lists.Grown.{tells}
+use Rattle.fal_story.proofs.Lists.Members.{same_number}
+use Rattle.fal_story.proofs.Trees.Changed.{up_to}
+use Rattle.fal_story.proofs.Trees.Footprint.{footprint, footprint_of, last_of_walk, way_to, way_to_of, among_front, among_end, among_itself, comes_among}
+use Rattle.fal_story.proofs.Trees.Met.{AreDirs, AreOpen, IsOpen, Met, met_way}
+use Rattle.fal_story.proofs.Trees.Among.{all_among}
 
--- ---- a walk over directories that are the tree's
+-- ---- what is said of a call by its fate
 
--- each directory of the replica stands in the tree
-abbrev pub AreDirs : Tree → Dentries → Type 0
-AreDirs tree entries = (key : Key) (dentry : Dentry) → value_at entries key ≡ Some dentry → HasDir tree key dentry
+-- its last name is blocked, or its walk meets a shut key
+abbrev pub IsSkipped : Setting → Tree → CallRec → List (List ℕ) → Type 0
+IsSkipped s tree call names = (is_blocked s.blocked (last_of names) ≡ true) ⊎ ((key : Key) × IsCrossed (footprint_of tree call.cred (Some names)) key × (is_among key s.shut ≡ true))
 
--- the walk over the replica lacks a key of the tree's way, or ends where the tree's ends
-abbrev Says : List (List ℕ) → List Key → Walked → ReplicaWalk → Type 0
-Says names way walked (Shut key) = ⊥
-Says names way walked (Missing key keys) = is_among key way ≡ true
-Says names way walked (Stop errno keys) = walked ≡ tree_walk.Stop Eacces
-Says names way walked (Ready parent inos keys) = (dir : Inode) × ((walked ≡ tree_walk.Ready (Some dir) inos (key_of dir.ino (last_name names))) × (parent ≡ Some (dentry_of dir)))
+-- its last key lives at another node, by the hash of parent and name
+abbrev pub IsAwayByKey : Setting → Tree → CallRec → Option ℕ → List (List ℕ) → Type 0
+IsAwayByKey s tree call to names =
+    (goes_by_parent s.table (last_of names) ≡ true)
+    × ((dir : Option Inode) × (passed : List ℕ) × (last : Key) × (walk tree call.cred names ≡ tree_walk.Ready dir passed last) × (owner s.table last ≢ s.me) × (to ≡ Some (owner s.table last)))
 
-module _ (tree : Tree) (entries : Dentries) (cred : Cred) where
-  -- the tree's walk from a key on
-  abbrev walk_at : Key → List (List ℕ) → Walked
-  walk_at key names = into (row_at tree key) (λ dir. walk_from tree cred dir names)
+-- it belongs to another node by its last name alone, or by its last key
+abbrev pub IsAway : Setting → Tree → CallRec → Option ℕ → List (List ℕ) → Type 0
+IsAway s tree call to names = ((is_elsewhere s names ≡ true) × (to ≡ away_to s.table call (route s.table names))) ⊎ IsAwayByKey s tree call to names
 
-  refused : (dir : Inode) (name : List ℕ) (names : List (List ℕ)) → grants cred 1 dir ≡ false → walk_from tree cred dir (name ∷ names) ≡ tree_walk.Stop Eacces
-  refused dir name [] is = ap (λ b. cond b (tree_walk.Ready (Some dir) (dir.ino ∷ []) (key_of dir.ino name)) (tree_walk.Stop Eacces)) is
-  refused dir name (next ∷ names) is =
-      ap (λ b. cond b (into (row_at tree (key_of dir.ino name)) (λ inner. passing dir.ino (walk_from tree cred inner (next ∷ names)))) (tree_walk.Stop Eacces)) is
+-- of a call with these names, if it has any
+abbrev pub IsFateOf : Setting → Tree → CallRec → Option (List (List ℕ)) → Fate → Type 0
+IsFateOf s tree call named Skips = IsSomeAnd named (λ names. IsSkipped s tree call names)
+IsFateOf s tree call named (Leaves to) = IsSomeAnd named (λ names. IsAway s tree call to names)
+IsFateOf s tree call named (Waits key) =
+    IsSomeAnd named (λ names. is_among key (way tree call.cred names) ≡ true)
+    × IsSomeAnd named (λ names. All (IsCrossed (way_to_of tree call.cred key named)) (up_to key (way tree call.cred names)))
+    × AreOpen s.shut (way_to_of tree call.cred key named) × IsOpen s.shut key
+IsFateOf s tree call named (Joins denied parent last keys) =
+    IsSomeAnd named (λ names. IsPlannedAs s.table tree s.me call (footprint_of tree call.cred named) (record { call = call; denied = denied; parent = parent; last = last }) denied names)
+    × AreOpen s.shut (footprint_of tree call.cred named)
 
-  passed : (dir : Inode) (name next : List ℕ) (names : List (List ℕ)) → grants cred 1 dir ≡ true → walk_from tree cred dir (name ∷ next ∷ names) ≡ passing dir.ino (walk_at (key_of dir.ino name) (next ∷ names))
-  passed dir name next names is =
-      ap (λ b. cond b (into (row_at tree (key_of dir.ino name)) (λ inner. passing dir.ino (walk_from tree cred inner (next ∷ names)))) (tree_walk.Stop Eacces)) is
-      ∙ passes_in dir.ino (row_at tree (key_of dir.ino name)) (λ inner. walk_from tree cred inner (next ∷ names))
+-- it is skipped, or leaves, as said; or it waits for a key to which its walk comes, which is not shut, as none before it is;
+-- or it is planned as the tree says, and no key on which it rests is shut
+abbrev pub IsFate : Setting → Tree → CallRec → Fate → Type 0
+IsFate s tree call f = IsFateOf s tree call (row_names call.op) f
 
-  past_says : (key : Key) (dir : Inode) (name next : List ℕ) (names : List (List ℕ)) (way : List Key) (walked : Walked) (end : ReplicaWalk)
-      → Says (next ∷ names) way walked end → Says (name ∷ next ∷ names) (key ∷ way) (passing dir.ino walked) (past key dir.ino end)
-  past_says key dir name next names way walked (Shut gap) says = says
-  past_says key dir name next names way walked (Missing gap keys) says = or_second (same_key key gap) (is_among gap way) says
-  past_says key dir name next names way walked (Stop errno keys) says = ap (passing dir.ino) says
-  past_says key dir name next names way walked (Ready parent inos keys) says = (says.0, (ap (passing dir.ino) says.1.0, says.1.1))
+-- the keys on which the place of the call rests then
+abbrev pub rests_by : Tree → CallRec → Fate → List Key
+rests_by tree call Skips = []
+rests_by tree call (Leaves to) = []
+rests_by tree call (Waits key) = way_to tree call key
+rests_by tree call (Joins denied parent last keys) = footprint tree call
 
-  module _ (parent : Option Dentry) (key : Key) (name : List ℕ) (names : List (List ℕ)) where
-    -- past a directory
-    abbrev beyond : Inode → ReplicaWalk
-    beyond dir = past key dir.ino (walk_on entries cred [] (Some (dentry_of dir)) (key_of dir.ino name) names)
-
-    abbrev way_beyond : Inode → List Key
-    way_beyond dir = way_from tree cred (key_of dir.ino name) names
-
-    by_grant : (dir : Inode) (b : Bool) → grants cred 1 dir ≡ b
-        → (grants cred 1 dir ≡ true → Says (name ∷ names) (key ∷ way_beyond dir) (walk_from tree cred dir (name ∷ names)) (beyond dir))
-        → Says (name ∷ names) (key ∷ cond b (way_beyond dir) []) (walk_from tree cred dir (name ∷ names)) (cond b (beyond dir) (Stop Eacces (key ∷ [])))
-    by_grant dir true granted later = later granted
-    by_grant dir false granted later = refused dir name names granted
-
-    at_dir : (dir : Inode) → row_at tree key ≡ Some dir → is_dir dir ≡ true
-        → (grants cred 1 dir ≡ true → Says (name ∷ names) (key ∷ way_beyond dir) (walk_from tree cred dir (name ∷ names)) (beyond dir))
-        → Says (name ∷ names) (way_from tree cred key (name ∷ names)) (walk_at key (name ∷ names)) (cond (grants cred 1 dir) (beyond dir) (Stop Eacces (key ∷ [])))
-    at_dir dir row is later =
-        let way_is : way_from tree cred key (name ∷ names) ≡ key ∷ cond (grants cred 1 dir) (way_beyond dir) []
-        = ap (λ o. key ∷ through o (λ inner. cond (grants cred 1 inner) (way_beyond inner) [])) row ∙ ap (λ b. key ∷ cond b (cond (grants cred 1 dir) (way_beyond dir) []) []) is in
-        let walk_is : walk_at key (name ∷ names) ≡ walk_from tree cred dir (name ∷ names)
-        = ap (λ o. into o (λ inner. walk_from tree cred inner (name ∷ names))) row ∙ ap (λ b. cond b (walk_from tree cred dir (name ∷ names)) (tree_walk.Stop Enotdir)) is in
-        subst (λ w. Says (name ∷ names) w (walk_at key (name ∷ names)) (cond (grants cred 1 dir) (beyond dir) (Stop Eacces (key ∷ [])))) (sym way_is)
-        (subst (λ w. Says (name ∷ names) (key ∷ cond (grants cred 1 dir) (way_beyond dir) []) w (cond (grants cred 1 dir) (beyond dir) (Stop Eacces (key ∷ [])))) (sym walk_is)
-        (by_grant dir (grants cred 1 dir) refl later))
-
-    abbrev found_at : Dentry → ReplicaWalk
-    found_at dir = cond (dentry_grants cred 1 dir) (past key dir.ino (walk_on entries cred [] (Some dir) (key_of dir.ino name) names)) (Stop Eacces (key ∷ []))
-
-    abbrev Wanted : ReplicaWalk → Type 0
-    Wanted end = Says (name ∷ names) (way_from tree cred key (name ∷ names)) (walk_at key (name ∷ names)) end
-
-    at_true : (met : Dentry) → HasDir tree key met
-        → ((dir : Inode) → grants cred 1 dir ≡ true → Says (name ∷ names) (key ∷ way_beyond dir) (walk_from tree cred dir (name ∷ names)) (beyond dir)) → Wanted (found_at met)
-    at_true met is_true later =
-        elim (row_at tree key) as (λ o. row_at tree key ≡ o → IsSomeAnd o (λ dir. (is_dir dir ≡ true) × (dentry_of dir ≡ met)) → Wanted (found_at met)) [
-          | None ↦ λ row is. absurd is
-          | Some dir ↦ λ row is. subst (λ d. Wanted (found_at d)) is.1 (at_dir dir row is.0 (later dir))
-        ] refl is_true
-
-    step : AreDirs tree entries → ((dir : Inode) → grants cred 1 dir ≡ true → Says (name ∷ names) (key ∷ way_beyond dir) (walk_from tree cred dir (name ∷ names)) (beyond dir))
-        → Wanted (walk_on entries cred [] parent key (name ∷ names))
-    step dirs later =
-        elim (value_at entries key) as (λ o. value_at entries key ≡ o → Wanted (into_dir key o found_at)) [
-          | None ↦ λ none. ap (λ b. b || is_among key (through (row_at tree key) (λ dir. cond (grants cred 1 dir) (way_beyond dir) []))) ((same_key_is key key).1 refl)
-          | Some met ↦ λ value. at_true met (dirs key met value) later
-        ] refl
-
-  on_tree : AreDirs tree entries → (parent : Option Dentry) (key : Key) (name : List ℕ) (names : List (List ℕ))
-      → Says (name ∷ names) (way_from tree cred key (name ∷ names)) (walk_at key (name ∷ names)) (walk_on entries cred [] parent key (name ∷ names))
-  on_tree dirs parent key name [] =
-      step parent key name [] dirs (λ dir granted. (dir, (ap (λ b. cond b (tree_walk.Ready (Some dir) (dir.ino ∷ []) (key_of dir.ino name)) (tree_walk.Stop Eacces)) granted, refl)))
-  on_tree dirs parent key name (next ∷ names) =
-      step parent key name (next ∷ names) dirs (λ dir granted.
-      let rest = on_tree dirs (Some (dentry_of dir)) (key_of dir.ino name) next names in
-      let end = walk_on entries cred [] (Some (dentry_of dir)) (key_of dir.ino name) (next ∷ names) in
-      let further = way_from tree cred (key_of dir.ino name) (next ∷ names) in
-      subst (λ w. Says (name ∷ next ∷ names) (key ∷ further) w (past key dir.ino end)) (sym (passed dir name next names granted))
-      (past_says key dir name next names further (walk_at (key_of dir.ino name) (next ∷ names)) end rest))
+-- none of them is shut
+pub rests_open : (s : Setting) (tree : Tree) (call : CallRec) (f : Fate) → IsFate s tree call f → AreOpen s.shut (rests_by tree call f)
+rests_open s tree call Skips is = All-nil (IsOpen s.shut)
+rests_open s tree call (Leaves to) is = All-nil (IsOpen s.shut)
+rests_open s tree call (Waits key) is = is.2
+rests_open s tree call (Joins denied parent last keys) is = is.1
 
 -- ---- the names of a call
 
@@ -155,126 +99,131 @@ last_there : (name : List ℕ) (names : List (List ℕ)) → slice_get (name ∷
 last_there name [] = refl
 last_there name (next ∷ names) = last_there next names
 
-and_false : (a b : Bool) → b ≡ false → (a && b) ≡ false
-and_false true b e = e
-and_false false b e = refl
+-- the names of a call that one row decides are its names
+pub named_op : (call : Op) (names : List (List ℕ)) → row_names call ≡ Some names → op_names call ≡ Some names
+named_op call names =
+    elim (is_rmdir call) as (λ b. (if b then None else op_names call) ≡ Some names → op_names call ≡ Some names) [
+      | true ↦ λ e. absurd (cc)
+      | false ↦ λ e. e
+    ]
 
--- the last key lives where the call was sent
-owner_is : (nodes ino : ℕ) (name : List ℕ) (names : List (List ℕ)) → path_field.Fits (name ∷ names) → owner (opening_table nodes) (key_of ino (last_name (name ∷ names))) ≡ route (opening_table nodes) (name ∷ names)
-unfolding path_field path_names
-owner_is nodes ino name names fit =
+last_is : (name : List ℕ) (names : List (List ℕ)) → last_of (name ∷ names) ≡ Some (last_name (name ∷ names))
+last_is name names = let back : length names ≡ suc (length names) - 1 = omega arith in ap (λ k. slice_get (name ∷ names) k) (sym back) ∙ last_there name names
+
+-- ---- where the last key lives
+
+owner_by_name : (nodes : ℕ) (key : Key) (rule : Rule) → is_by_parent rule ≡ false → owner_by nodes key rule ≡ route_by nodes key.name rule
+owner_by_name nodes key Hash by = refl
+owner_by_name nodes key ByParent by = absurd (cc)
+owner_by_name nodes key (Placed node) by = refl
+
+-- where the last name leads, unless its keys live by the hash of parent and name
+last_owner : (table : Placement) (key : Key) (name : List ℕ) (names : List (List ℕ)) → key.name ≡ last_name (name ∷ names) → is_name (last_name (name ∷ names)) ≡ true → goes_by_parent table (last_of (name ∷ names)) ≡ false
+    → owner table key ≡ route table (name ∷ names)
+last_owner table key name names named fits by =
     let last = last_name (name ∷ names) in
-    let key = key_of ino last in
-    let no_root : is_root_key key ≡ false = and_false (ino == 0) (length last == 0) (not_empty last (last_fits None name names fit.0.1.1)) in
-    let back : length names ≡ suc (length names) - 1 = omega arith in
-    ap (λ b. cond b 0 (owner_by nodes key (rule_found None))) no_root
-    ∙ sym (ap (λ k. route_of_last (opening_table nodes) (slice_get (name ∷ names) k)) (sym back) ∙ ap (route_of_last (opening_table nodes)) (last_there name names))
-
--- a served call has one good path, and goes to the node for its last name
-abbrev HasNames : Placement → Op → Type 0
-HasNames table call = (names : List (List ℕ)) × ((op_names call ≡ Some names) × (row_names call ≡ Some names) × (addressee table call ≡ Node (route table names)) × path_field.Fits names)
-
-names_of : (table : Placement) (call : Op) → IsTrue (is_served call) → op_field.Fits call → HasNames table call
-unfolding addressee op_field path_and_mode path_and_want path_and_size path_arg_field
-names_of table (op.Mkdir (Good names) mode) served fits = (names, (refl, refl, refl, fits.0))
-names_of table (op.Mkdir (Bad fault raw) mode) served fits = absurd (fits.0)
-names_of table (op.Create (Good names) mode) served fits = (names, (refl, refl, refl, fits.0))
-names_of table (op.Create (Bad fault raw) mode) served fits = absurd (fits.0)
-names_of table (op.Stat (Good names)) served fits = (names, (refl, refl, refl, fits))
-names_of table (op.Stat (Bad fault raw)) served fits = absurd fits
-names_of table (op.Access (Good names) want) served fits = (names, (refl, refl, refl, fits.0))
-names_of table (op.Access (Bad fault raw) want) served fits = absurd (fits.0)
-names_of table (op.Truncate (Good names) size) served fits = (names, (refl, refl, refl, fits.0))
-names_of table (op.Truncate (Bad fault raw) size) served fits = absurd (fits.0)
-names_of table (op.Unlink (Good names)) served fits = (names, (refl, refl, refl, fits))
-names_of table (op.Unlink (Bad fault raw)) served fits = absurd fits
-names_of table other served fits = absurd (cc)
+    let no_root : is_root_key key ≡ false = ap (λ b. (key.parent == 0) && b) (ap (λ n. length n == 0) named ∙ not_empty last fits) ∙ and_is_false (key.parent == 0) in
+    let rule : is_by_parent (rule_of table key.name) ≡ false = ap (λ n. is_by_parent (rule_of table n)) named ∙ ap (goes_by_parent table) (sym (last_is name names)) ∙ by in
+    ap (λ b. if b then 0 else owner_by table.nodes key (rule_of table key.name)) no_root
+    ∙ owner_by_name table.nodes key (rule_of table key.name) rule
+    ∙ ap (λ n. route_of_last table (Some n)) named
+    ∙ ap (route_of_last table) (sym (last_is name names))
 
 -- ---- fates
 
--- the call waits for a key to which its walk comes, or it is planned as the tree says
-abbrev pub IsFate : Placement → Tree → ℕ → CallRec → Fate → Type 0
-IsFate table tree n call Skips = ⊥
-IsFate table tree n call (Leaves to) = ⊥
-IsFate table tree n call (Waits key) = Reaches tree call key × Crosses tree call key (footprint tree call)
-IsFate table tree n call (Joins denied parent last keys) = IsPlanned table tree n call (footprint tree call) (record { call = call; denied = denied; parent = parent; last = last })
+module _ (s : Setting) (tree : Tree) (call : CallRec) where
+  abbrev Is : List (List ℕ) → Fate → Type 0
+  Is names f = IsFateOf s tree call (Some names) f
 
-module _ (config : Config) (n : ℕ) (dentries : Dentries) (limit : ℕ) (tree : Tree) (call : CallRec) where
-  abbrev table : Placement
-  table = table_of config
-
-  -- nothing is blocked or shut, and there are no rules
-  abbrev setting : Setting
-  setting = record { me = n; table = table; blocked = Nothing; dentries = dentries; shut = []; limit = limit }
-
-  by_hash : (last : Option (List ℕ)) → goes_by_parent table last ≡ false
-  by_hash None = refl
-  by_hash (Some name) = refl
-
-  not_blocked : (last : Option (List ℕ)) → is_blocked Nothing last ≡ false
-  not_blocked None = refl
-  not_blocked (Some name) = refl
+  abbrev rests : List (List ℕ) → List Key
+  rests names = footprint_of tree call.cred (Some names)
 
   -- the call rests on its way, and on the last key that its walk comes to
-  crossed_way : (names : List (List ℕ)) → All (IsCrossed (footprint_of tree call.cred (Some names))) (way tree call.cred names)
+  crossed_way : (names : List (List ℕ)) → All (IsCrossed (rests names)) (way tree call.cred names)
   crossed_way names = among_front (way tree call.cred names) (last_of_walk (walk tree call.cred names))
 
-  crossed_last : (names : List (List ℕ)) (dir : Option Inode) (passed : List ℕ) (last : Key) → walk tree call.cred names ≡ tree_walk.Ready dir passed last → IsCrossed (footprint_of tree call.cred (Some names)) last
+  crossed_last : (names : List (List ℕ)) (dir : Option Inode) (passed : List ℕ) (last : Key) → walk tree call.cred names ≡ tree_walk.Ready dir passed last → IsCrossed (rests names) last
   crossed_last names dir passed last is = ap (λ w. is_among last (way tree call.cred names ++ last_of_walk w)) is ∙ among_end (way tree call.cred names) last
 
-  joins : (names : List (List ℕ)) (parent : Option Dentry) (last : Key) (keys : List Key) → row_names call.op ≡ Some names
-      → IsPlannedAs table tree n call (footprint_of tree call.cred (Some names)) (record { call = call; denied = false; parent = parent; last = last }) false names → IsFate table tree n call (fate_at setting (goes_by_parent table (last_of names)) parent keys last)
-  joins names parent last keys row planned =
-      let x : BatchCall = record { call = call; denied = false; parent = parent; last = last } in
-      subst (λ b. IsFate table tree n call (fate_at setting b parent keys last)) (sym (by_hash (last_of names)))
-      (subst (λ o. IsSomeAnd o (λ ns. IsPlannedAs table tree n call (footprint_of tree call.cred o) x false ns)) (sym row) planned)
+  open_ready : (names : List (List ℕ)) (dir : Option Inode) (passed : List ℕ) (last : Key) → walk tree call.cred names ≡ tree_walk.Ready dir passed last → AreOpen s.shut (way tree call.cred names) → IsOpen s.shut last
+      → AreOpen s.shut (rests names)
+  open_ready names dir passed last is off own =
+      subst (λ w. AreOpen s.shut (way tree call.cred names ++ last_of_walk w)) (sym is) (All-push (IsOpen s.shut) (way tree call.cred names) last off own)
 
-  fate_at_end : (name : List ℕ) (names : List (List ℕ)) (end : ReplicaWalk) → row_names call.op ≡ Some (name ∷ names) → route table (name ∷ names) ≡ n → path_field.Fits (name ∷ names)
-      → Says (name ∷ names) (way tree call.cred (name ∷ names)) (walk tree call.cred (name ∷ names)) end → IsFate table tree n call (fate_walked setting (name ∷ names) end)
-  fate_at_end name names (Shut key) row to fit says = absurd says
-  fate_at_end name names (Missing key keys) row to fit says = (
-    subst (λ o. IsSomeAnd o (λ ns. is_among key (way tree call.cred ns) ≡ true)) (sym row) says,
-    subst (λ o. IsSomeAnd o (λ ns. All (IsCrossed (footprint_of tree call.cred o)) (up_to key (way tree call.cred ns)))) (sym row)
-        (all_up_to (IsCrossed (footprint_of tree call.cred (Some (name ∷ names)))) key (way tree call.cred (name ∷ names)) (crossed_way (name ∷ names))),
-  )
-  fate_at_end name names (Stop errno keys) row to fit says =
-      subst (λ o. IsSomeAnd o (λ ns. (walk tree call.cred ns ≡ tree_walk.Stop Eacces) × All (IsCrossed (footprint_of tree call.cred o)) (way tree call.cred ns))) (sym row) (says, crossed_way (name ∷ names))
-  fate_at_end name names (Ready parent inos keys) row to fit says =
-      let dir = says.0 in
-      subst (λ p. IsFate table tree n call (fate_at setting (goes_by_parent table (last_of (name ∷ names))) p keys (last_key p (last_name (name ∷ names))))) (sym says.1.1)
-      (joins (name ∷ names) (Some (dentry_of dir)) (key_of dir.ino (last_name (name ∷ names))) keys row
-      ((Some dir, (inos, says.1.0, refl)), crossed_way (name ∷ names), owner_is config.nodes dir.ino name names fit ∙ to, crossed_last (name ∷ names) (Some dir) inos (key_of dir.ino (last_name (name ∷ names))) says.1.0))
+  open_stopped : (names : List (List ℕ)) (errno : Errno) → walk tree call.cred names ≡ tree_walk.Stop errno → AreOpen s.shut (way tree call.cred names) → AreOpen s.shut (rests names)
+  open_stopped names errno is off =
+      subst (λ w. AreOpen s.shut (way tree call.cred names ++ last_of_walk w)) (sym is) (subst (AreOpen s.shut) (sym (append-nil (way tree call.cred names))) off)
 
-  fate_walks : (names : List (List ℕ)) → row_names call.op ≡ Some names → route table names ≡ n → path_field.Fits names → AreDirs tree dentries → IsFate table tree n call (fate_walked setting names (walk_of setting call names))
-  fate_walks [] row to fit dirs = joins [] None root_key [] row ((None, ([], refl, refl)), crossed_way [], to, crossed_last [] None [] root_key refl)
-  fate_walks (name ∷ names) row to fit dirs = fate_at_end name names (walk_of setting call (name ∷ names)) row to fit (on_tree tree dentries call.cred dirs None root_key name names)
+  -- the walk is ready
+  module _ (names : List (List ℕ)) (dir : Option Inode) (parent : Option Dentry) (passed : List ℕ) (last : Key) (keys : List Key)
+      (ends : walk tree call.cred names ≡ tree_walk.Ready dir passed last) (same : option_map dentry_of dir ≡ parent) (off : AreOpen s.shut (way tree call.cred names)) where
+    abbrev joins : Fate
+    joins = Joins false parent last (keys ++ last ∷ [])
 
-  fate_named : (names : List (List ℕ)) → row_names call.op ≡ Some names → route table names ≡ n → path_field.Fits names → AreDirs tree dentries → IsFate table tree n call (fate_by setting call (Some names))
-  fate_named names row to fit dirs =
-      let here : is_elsewhere setting names ≡ false = and_false (not (goes_by_parent table (last_of names))) (not (route table names == n)) (ap not (eq-eqb (route table names) n to)) in
-      subst (λ b. IsFate table tree n call (cond b Skips (cond (is_elsewhere setting names) (Leaves (away_to table call (route table names))) (fate_walked setting names (walk_of setting call names)))))
-      (sym (not_blocked (last_of names)))
-      (subst (λ b. IsFate table tree n call (cond b (Leaves (away_to table call (route table names))) (fate_walked setting names (walk_of setting call names)))) (sym here)
-      (fate_walks names row to fit dirs))
+    own_key : owner s.table last ≡ s.me → Is names (if is_among last s.shut then Skips else joins)
+    own_key own =
+        elim (is_among last s.shut) as (λ b. is_among last s.shut ≡ b → Is names (if b then Skips else joins)) [
+          | true ↦ λ is. inr (last, crossed_last names dir passed last ends, is)
+          | false ↦ λ is. (((dir, (passed, ends, same)), crossed_way names, own, crossed_last names dir passed last ends), open_ready names dir passed last ends off is)
+        ] refl
 
-  fate_of : IsTrue (is_served call.op) → op_field.Fits call.op → addressee table call.op ≡ Node n → AreDirs tree dentries → IsFate table tree n call (fate setting call)
-  unfolding fate
-  fate_of served fits to dirs =
-      let names = names_of table call.op served fits in
-      let at : Node (route table names.0) ≡ Node n = sym names.1.2 ∙ to in
-      let here : route table names.0 ≡ n = cc in
-      subst (λ o. IsFate table tree n call (fate_by setting call o)) (sym names.1.0) (fate_named names.0 names.1.1 here names.1.3 dirs)
+    by_parent : goes_by_parent s.table (last_of names) ≡ true → Is names (fate_at s true parent keys last)
+    by_parent by =
+        let at = λ (b : Bool). if not b then Leaves (Some (owner s.table last)) else if is_among last s.shut then Skips else joins in
+        ⊎_elim
+        (λ own. subst (λ b. Is names (at b)) (sym own.0) (own_key own.1))
+        (λ other. subst (λ b. Is names (at b)) (sym other.0) (inr (by, (dir, passed, last, ends, other.1, refl))))
+        (tells (owner s.table last) s.me)
 
--- the fate of a call at the node to which it was sent, over directories that are the tree's
-pub fate_is : (config : Config) (n : ℕ) (x : NodeState) (tree : Tree) (call : CallRec) → IsPlaced config n x → x.locks.shut ≡ None → AreDirs tree x.replica → addressee (table_of config) call.op ≡ Node n
-    → IsTrue (is_served call.op) → op_field.Fits call.op → IsFate (table_of config) tree n call (fate (setting_at x) call)
-fate_is config n x tree call placed open_here dirs to served fits =
-    let same : setting_at x ≡ setting config n x.replica x.limit tree call = λ i. record {
-      me = placed.number i;
-      table = placed.table i;
-      blocked = blocked_names (placed.blocked i);
-      dentries = x.replica;
-      shut = keys_of (open_here i);
-      limit = x.limit;
-    } in
-    subst (λ s. IsFate (table_of config) tree n call (fate s call)) (sym same) (fate_of config n x.replica x.limit tree call served fits to dirs)
+    at_last : (goes_by_parent s.table (last_of names) ≡ false → owner s.table last ≡ s.me) → Is names (fate_at s (goes_by_parent s.table (last_of names)) parent keys last)
+    at_last own =
+        elim (goes_by_parent s.table (last_of names)) as (λ b. goes_by_parent s.table (last_of names) ≡ b → Is names (fate_at s b parent keys last)) [
+          | true ↦ λ by. by_parent by
+          | false ↦ λ by. own_key (own by)
+        ] refl
+
+  -- unless the last name's keys live by the hash of parent and name, it leads here
+  abbrev LeadsHere : List (List ℕ) → Type 0
+  LeadsHere names = goes_by_parent s.table (last_of names) ≡ false → route s.table names ≡ s.me
+
+  fate_at_end : (name : List ℕ) (names : List (List ℕ)) (end : ReplicaWalk) → LeadsHere (name ∷ names) → is_name (last_name (name ∷ names)) ≡ true
+      → Met tree s.dentries call.cred s.shut (name ∷ names) (way tree call.cred (name ∷ names)) (walk tree call.cred (name ∷ names)) end → Is (name ∷ names) (fate_walked s (name ∷ names) end)
+  fate_at_end name names (Shut key) here fit met =
+      let keys = way tree call.cred (name ∷ names) in
+      inr (key, all_among (IsCrossed (rests (name ∷ names))) keys key (crossed_way (name ∷ names)) (comes_among key keys met.0 met.1), met.3)
+  fate_at_end name names (Missing key keys) here fit met =
+      let found = way tree call.cred (name ∷ names) in
+      (comes_among key found keys met.0, among_itself (up_to key found), subst (AreOpen s.shut) (sym met.0) met.2, all_among (IsOpen s.shut) (keys ++ key ∷ []) key met.2 (among_end keys key))
+  fate_at_end name names (Stop errno keys) here fit met = ((met.0, crossed_way (name ∷ names)), open_stopped (name ∷ names) Eacces met.0 (subst (AreOpen s.shut) (sym met.1) met.2))
+  fate_at_end name names (Ready parent inos keys) here fit met =
+      let last = last_key parent (last_name (name ∷ names)) in
+      at_last (name ∷ names) met.0.0 parent inos last keys met.0.1 met.0.2 (subst (AreOpen s.shut) (sym met.1) met.2) (λ by. last_owner s.table last name names met.0.3 fit by ∙ here by)
+
+  fate_walks : AreDirs tree s.dentries → (names : List (List ℕ)) → path_field.Fits names → LeadsHere names → Is names (fate_walked s names (walk_of s call names))
+  unfolding path_field path_names
+  fate_walks dirs [] fit here = at_last [] None None [] root_key [] refl refl (All-nil (IsOpen s.shut)) (λ by. here by)
+  fate_walks dirs (name ∷ names) fit here = fate_at_end name names (walk_of s call (name ∷ names)) here (last_fits None name names fit.0.1.1) (met_way tree s.dentries call.cred s.shut dirs (name ∷ names))
+
+  fate_named : AreDirs tree s.dentries → (names : List (List ℕ)) → path_field.Fits names → Is names (fate_by s call (Some names))
+  fate_named dirs names fit =
+      elim (is_blocked s.blocked (last_of names)) as (λ b. is_blocked s.blocked (last_of names) ≡ b
+      → Is names (if b then Skips else if is_elsewhere s names then Leaves (away_to s.table call (route s.table names)) else fate_walked s names (walk_of s call names))) [
+        | true ↦ λ is. inl is
+        | false ↦ λ _.
+            elim (is_elsewhere s names) as (λ b. is_elsewhere s names ≡ b → Is names (if b then Leaves (away_to s.table call (route s.table names)) else fate_walked s names (walk_of s call names))) [
+              | true ↦ λ is. inl (is, refl)
+              | false ↦ λ is. fate_walks dirs names fit (λ by. same_number (route s.table names) s.me (leads (goes_by_parent s.table (last_of names)) (route s.table names == s.me) is by))
+            ] refl
+      ] refl
+    where
+      leads : (a b : Bool) → (not a && not b) ≡ false → a ≡ false → b ≡ true
+      leads true b is none = absurd (cc)
+      leads false true is none = refl
+      leads false false is none = absurd (cc)
+
+-- the fate of a call with fitting names, over directories that are the tree's
+pub fate_is : (s : Setting) (tree : Tree) (call : CallRec) (names : List (List ℕ)) → AreDirs tree s.dentries → row_names call.op ≡ Some names → path_field.Fits names → IsFate s tree call (fate s call)
+unfolding fate
+fate_is s tree call names dirs named fit =
+    subst (λ o. IsFateOf s tree call o (fate_by s call (op_names call.op))) (sym named)
+    (subst (λ o. IsFateOf s tree call (Some names) (fate_by s call o)) (sym (named_op call.op names named)) (fate_named s tree call dirs names fit))

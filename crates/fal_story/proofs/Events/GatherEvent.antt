@@ -25,7 +25,8 @@ use Rattle.fal_wait.specs.Waiting.{WaitList}
 use Rattle.fal_wire.specs.declared.message.Found.{Found}
 use Rattle.fal_wire.specs.declared.message.Message.TheVariants as message
 use Rattle.fal_wire.specs.Messages.{Fits}
-use Rattle.fal_story.proofs.Events.GatherPhases.{crossed, open_here, all_stay, phase, moves_at, may_move, reach_new, held_after}
+use Rattle.fal_story.proofs.Events.GatherPhases.{crossed, phase, moves_at, may_move, new_off, reach_new, held_after}
+use Rattle.fal_story.proofs.Events.Going.{fates_stay}
 use Rattle.fal_story.proofs.Events.HeldCalls.{others_held, heard_moves}
 use Rattle.fal_story.proofs.Events.InStep.{view_begun, InStep, Ends, ends, view_in, letter_post, letter_posts, sent_more}
 use Rattle.fal_story.proofs.Events.Shows.{Ghost, Shows, Held, AreSent, IsPlaced, IsTidy, view_of, posts_of, askings_of, pending_calls, calls_in, resting}
@@ -34,7 +35,8 @@ use Rattle.fal_story.proofs.Good.{Good}
 use Rattle.fal_story.proofs.Families.Asking.{Crosses}
 use Rattle.fal_story.proofs.Families.Clear.{IsShut}
 use Rattle.fal_story.proofs.Lists.Each.{Each}
-use Rattle.fal_story.proofs.Lists.GatherLists.{IsGathered, letters_are, gathered_node}
+use Rattle.fal_story.proofs.Lists.GatherLetters.{AreLetters, Asks, Errand, Parts, each_errand, errands_of, gathered_letters, letter_of}
+use Rattle.fal_story.proofs.Lists.GatherLists.{IsGathered, Leaver, leavers, gathered_node, none_leave}
 use Rattle.fal_story.proofs.Lists.Grown.{put_same, put_put, put_back}
 use Rattle.fal_story.proofs.Lists.Members.{IsIn, in_at, in_map, in_back, each_in, each_by, each_map, apart_map, apart_same}
 use Rattle.fal_story.proofs.Lists.OpenedFetches.{pending_of}
@@ -42,7 +44,7 @@ use Rattle.fal_story.proofs.Phase.{Phase, Waits}
 use Rattle.fal_story.proofs.Steps.Fetching.{IsNewFetch, raised_good, pended_good}
 use Rattle.fal_story.proofs.Steps.Moved.{moved_good}
 use Rattle.fal_story.proofs.Steps.Posted.{posted_good}
-use Rattle.fal_story.proofs.Trees.Standing.{Reaches, table_of}
+use Rattle.fal_story.proofs.Trees.Standing.{Reaches}
 use Rattle.fal_story.proofs.View.{View, Post, Asking, IsPosted, now}
 use Rattle.fal_story.specs.Clusters.{IsCluster}
 use Rattle.fal_story.specs.World.{World, put}
@@ -71,22 +73,27 @@ all_pended config v n (f ∷ fs) there other h g =
     ∙ ap (put v.fetches n) (append_assoc (v.fetches n) (f ∷ []) fs) in
     subst (λ (fetches : ℕ → List Asking). Good config (record v { fetches = fetches })) same rest
 
--- ---- their owners are asked
+-- ---- the records go out, in the order of the plan
 
-abbrev ask : ℕ → ℕ → Config → PendingFetch → Post
-ask n commits config f = record { to = Node (owner (table_of config) f.key); point = commits; message = Some (message.FetchAsk n f.number f.key) }
+abbrev posts_by : ℕ → NodeState → List Errand → List Post
+posts_by commits x errands = letter_posts commits (map (letter_of x) errands)
 
-abbrev IsAskable : Config → View → ℕ → PendingFetch → Type 0
-IsAskable config v n f = (f.number < v.opened n) × IsForKey v.fetches n f.number f.key
+-- the record asks for the directory of a pending fetch. None is for a call that leaves
+abbrev IsSendable : View → ℕ → Errand → Type 0
+IsSendable v n (Asks f) = (f.number < v.opened n) × IsForKey v.fetches n f.number f.key
+IsSendable v n (Parts y) = ⊥
 
-all_asked : (config : Config) (v : View) (n commits : ℕ) (fs : List PendingFetch) → n < config.nodes → n ≢ 255 → v.map.table ≡ table_of config → Each (IsAskable config v n) fs → Good config v
-    → Good config (record v { posts = v.posts ++ map (λ f. ask n commits config f) fs })
-all_asked config v n commits [] there other table h g = subst (λ posts. Good config (record v { posts = posts })) (sym (append-nil v.posts)) g
-all_asked config v n commits (f ∷ fs) there other table h g =
-    let one = ask n commits config f in
+all_sent : (config : Config) (v : View) (x : NodeState) (commits : ℕ) (errands : List Errand) → x.number < config.nodes → x.number ≢ 255 → x.table ≡ v.map.table → Each (IsSendable v x.number) errands → Good config v
+    → Good config (record v { posts = v.posts ++ posts_by commits x errands })
+all_sent config v x commits [] there other table h g = subst (λ posts. Good config (record v { posts = posts })) (sym (append-nil v.posts)) g
+all_sent config v x commits (Asks f ∷ errands) there other table h g =
+    let to = owner x.table f.key in
+    let one = letter_post commits (ask_letter x f.number f.key) in
     let next = record v { posts = v.posts ++ one ∷ [] } in
-    let first = posted_good config v (Node (owner (table_of config) f.key)) commits (message.FetchAsk n f.number f.key) (record { asking = (inl there, h.0.0, ap (λ t. Node (owner t f.key)) (sym table), h.0.1); records = (owner (table_of config) f.key, refl); operation = λ own. absurd (other own) }) g in
-    subst (λ posts. Good config (record v { posts = posts })) (append_assoc v.posts (one ∷ []) (map (λ x. ask n commits config x) fs)) (all_asked config next n commits fs there other table h.1 first)
+    let first = posted_good config v (Node to) (commits + 0) (message.FetchAsk x.number f.number f.key)
+    (record { asking = (inl there, h.0.0, ap (λ t. Node (owner t f.key)) table, h.0.1); records = (to, refl); operation = λ own. absurd (other own) }) g in
+    subst (λ posts. Good config (record v { posts = posts })) (append_assoc v.posts (one ∷ []) (posts_by commits x errands)) (all_sent config next x commits errands there other table h.1 first)
+all_sent config v x commits (Parts y ∷ errands) there other table h g = absurd h.0
 
 -- ---- the node when it has gathered
 
@@ -142,18 +149,11 @@ after_gather x fetches tickets (call ∷ calls) keys = record {
 kept_at : {A : Type 0} (f : ℕ → A) (n : ℕ) (x : A) → x ≡ f n → ◌≡◌ {A = ℕ → A} f (put f n x)
 kept_at f n x is = sym (ap (put f n) is ∙ put_back f n)
 
-ask_posts : (config : Config) (n commits : ℕ) (x : NodeState) (fs : List PendingFetch) → x.number ≡ n → x.table ≡ table_of config
-    → map (λ f. ask n (commits + 0) config f) fs ≡ letter_posts commits (map (λ f. ask_letter x f.number f.key) fs)
-ask_posts config n commits x [] number table = refl
-ask_posts config n commits x (f ∷ fs) number table =
-    let one : ask n (commits + 0) config f ≡ letter_post commits (ask_letter x f.number f.key) =
-    λ i. record { to = Node (owner (sym table i) f.key); point = commits + 0; message = Some (message.FetchAsk (sym number i) f.number f.key) } in
-    λ i. one i ∷ ask_posts config n commits x fs number table i
-
 module _ (config : Config) (w : World) (n : ℕ) (h : Ghost) (there : n < config.nodes) (other : n ≢ 255) (s : Shows config w h) (y : NodeState) (after : WaitList) (opened : List PendingFetch) (batch : List BatchCall)
-    (g : IsGathered (setting_at (w.nodes n)) (w.nodes n).waiting after opened batch) (a : IsAfter (w.nodes n) y after batch) where
+    (left : List Leaver) (g : IsGathered (setting_at (w.nodes n)) (w.nodes n).waiting after opened batch left) (a : IsAfter (w.nodes n) y after batch)
+    (errands : List Errand) (sent : List Letter) (l : AreLetters (w.nodes n) opened left errands sent) (none : left ≡ []) where
   abbrev later : ℕ → Phase
-  later = phase config w n h there s after opened batch g
+  later = phase config w n h there s after opened batch left g
 
   abbrev rests : ℕ → List Key
   rests = crossed config w n h there s
@@ -165,7 +165,7 @@ module _ (config : Config) (w : World) (n : ℕ) (h : Ghost) (there : n < config
   moved = record v { opened = put v.opened n after.opened; phase = later; op = record v.op { crossed = rests } }
 
   moved_is : Good config moved
-  moved_is = moved_good config (record v { opened = put v.opened n after.opened }) later rests (may_move config w n h there s after opened batch g) (raised_good config v n after.opened g.below s.good)
+  moved_is = moved_good config (record v { opened = put v.opened n after.opened }) later rests (may_move config w n h there s after opened batch left g) (raised_good config v n after.opened g.below s.good)
 
   new_at : (f : PendingFetch) → IsIn f opened → ((w.nodes n).waiting.opened ≤ f.number) × (f.number < after.opened)
   new_at f m = each_in (λ (z : PendingFetch). ((w.nodes n).waiting.opened ≤ z.number) × (z.number < after.opened)) opened f g.new m
@@ -180,8 +180,8 @@ module _ (config : Config) (w : World) (n : ℕ) (h : Ghost) (there : n < config
         below_count f m,
         λ e p key what sent. let below = s.good.asking.numbers.got e n p f.number key what sent in let new = (new_at f m).0 in absurd (omega arith),
         λ e p to key sent. let below = (s.good.asking.numbers.ask e p to n f.number key sent).1 in let new = (new_at f m).0 in absurd (omega arith),
-        λ l waits. reach_new config w n h there s after opened batch g l f m waits,
-        λ is. subst (λ shut. IsShut shut f.key) (open_here config w n h there s) is,
+        λ l waits. reach_new config w n h there s after opened batch left g l f m waits,
+        new_off config w n h there s after opened batch left g f m,
       )))
 
   abbrev pended : View
@@ -203,11 +203,20 @@ module _ (config : Config) (w : World) (n : ℕ) (h : Ghost) (there : n < config
       (in_map (λ (z : PendingFetch). record { number = z.number; key = z.key }) after.fetches f here) (in_at (askings_of after.fetches) j b found) (sym same) in
       ap (λ (z : Asking). z.key) one
 
-  asked_is : Good config (record pended { posts = v.posts ++ map (λ f. ask n (length w.commits + 0) config f) opened })
-  asked_is = all_asked config pended n (length w.commits + 0) opened there other refl (each_by _ opened (λ f m. (below_count f m, for_key f m))) pended_is
+  sendable : Each (IsSendable pended (w.nodes n).number) errands
+  sendable =
+      let number = (w.nodes n).number in
+      let asks = each_by (λ (f : PendingFetch). IsSendable pended number (Asks (record { number = f.number; key = f.key }))) opened
+      (λ f m. subst (λ i. (f.number < pended.opened i) × IsForKey pended.fetches i f.number f.key) (sym (s.placed n).number) (below_count f m, for_key f m)) in
+      each_errand (IsSendable pended number) errands
+      (subst (Each (λ f. IsSendable pended number (Asks f))) (sym l.asked) (each_map (λ f. IsSendable pended number (Asks f)) (λ (f : PendingFetch). record { number = f.number; key = f.key }) opened asks))
+      (subst (Each (λ y. IsSendable pended number (Parts y))) (sym (l.parted ∙ none)) tt)
+
+  sent_is : Good config (record pended { posts = v.posts ++ posts_by (length w.commits) (w.nodes n) errands })
+  sent_is = all_sent config pended (w.nodes n) (length w.commits) errands (subst (λ i. i < config.nodes) (sym (s.placed n).number) there) (λ own. other (sym (s.placed n).number ∙ own)) (s.placed n).table sendable pended_is
 
   abbrev letters : List Letter
-  letters = map (λ f. ask_letter (w.nodes n) f.number f.key) opened
+  letters = map (letter_of (w.nodes n)) errands
 
   abbrev work : Work
   work = record { node = y; sent = letters; notes = [] }
@@ -216,9 +225,9 @@ module _ (config : Config) (w : World) (n : ℕ) (h : Ghost) (there : n < config
   then = record h { phase = later; crossed = rests }
 
   good_is : Good config (view_in config w n work then)
-  good_is = subst (Good config) same asked_is
+  good_is = subst (Good config) same sent_is
     where
-      same : record pended { posts = v.posts ++ map (λ f. ask n (length w.commits + 0) config f) opened } ≡ view_in config w n work then
+      same : record pended { posts = v.posts ++ posts_by (length w.commits) (w.nodes n) errands } ≡ view_in config w n work then
       same = λ i. record (view_begun config w n h i) {
         rows = kept_at v.rows n y.rows a.rows i;
         replica = kept_at v.replica n y.replica a.replica i;
@@ -226,7 +235,7 @@ module _ (config : Config) (w : World) (n : ℕ) (h : Ghost) (there : n < config
         opened = put v.opened n (sym a.waiting i).opened;
         taken = kept_at v.taken n y.waiting.last (ap (λ (l : WaitList). l.last) a.waiting ∙ g.last) i;
         drawn = kept_at v.drawn n y.drawn a.drawn i;
-        posts = v.posts ++ ask_posts config n (length w.commits) (w.nodes n) opened (s.placed n).number (s.placed n).table i;
+        posts = v.posts ++ posts_by (length w.commits) (w.nodes n) errands;
         phase = later;
         op = resting (kept_at (λ m. (w.nodes m).locks.shut) n y.locks.shut a.shut i) rests;
       }
@@ -243,18 +252,18 @@ module _ (config : Config) (w : World) (n : ℕ) (h : Ghost) (there : n < config
   in_step : InStep config w n work then y.waiting.calls (calls_in y.batches)
   in_step = record {
     good = good_is;
-    here = subst (Held h.call later n y.waiting.calls) (sym a.batches) (subst (λ (l : WaitList). Held h.call later n l.calls (calls_in (w.nodes n).batches ++ batch)) (sym a.waiting) (held_after config w n h there s after opened batch g));
-    others = others_held w n h.call h.phase later (moves_at config w n h there s after opened batch g) (λ m _. s.held m);
+    here = subst (Held h.call later n y.waiting.calls) (sym a.batches) (subst (λ (l : WaitList). Held h.call later n l.calls (calls_in (w.nodes n).batches ++ batch)) (sym a.waiting) (held_after config w n h there s after opened batch left g));
+    others = others_held w n h.call h.phase later (moves_at config w n h there s after opened batch left g) (λ m _. s.held m);
     items = subst (AreSent (posts_of w.envelopes ++ letter_posts (length w.commits) letters) n) (sym a.items) (sent_more (posts_of w.envelopes) (letter_posts (length w.commits) letters) n (w.nodes n).items (s.items n));
     others_items = λ m _. s.items m;
-    heard = heard_moves config w n h.call h.phase later (moves_at config w n h there s after opened batch g) s.heard;
+    heard = heard_moves config w n h.call h.phase later (moves_at config w n h there s after opened batch left g) s.heard;
     placed = placed_is;
     others_placed = λ m _. s.placed m;
   }
 
-  gather_ends : (sent : List Letter) → sent ≡ letters → All (λ letter. Fits letter.message) sent → Ends config w n (record { node = y; sent = sent; notes = [] })
-  gather_ends sent is =
-      subst (λ (ls : List Letter). All (λ letter. Fits letter.message) ls → Ends config w n (record { node = y; sent = ls; notes = [] })) (sym is)
+  gather_ends : All (λ letter. Fits letter.message) sent → Ends config w n (record { node = y; sent = sent; notes = [] })
+  gather_ends =
+      subst (λ (ls : List Letter). All (λ letter. Fits letter.message) ls → Ends config w n (record { node = y; sent = ls; notes = [] })) (sym l.letters_are)
       (λ fit. (then, ends config w n work then fit in_step))
 
 -- ---- the event
@@ -273,11 +282,12 @@ unfolding gathered
 gathered_ends config w n h there other s fit =
     let x = w.nodes n in
     let plan = plan_at x in
-    let stay = all_stay config w n h there s in
+    let tidy = (s.placed n).tidy in
+    let none = none_leave x tidy (fates_stay config w n h there s) in
     gather_ends config w n h there other s (with_batch (with_waiting x plan.fetches (leaving plan)) (batch_calls x.waiting plan.calls) plan.keys)
-    (without_calls (with_fetches x.waiting plan.fetches) (leaving plan)) (pending_of x.waiting.opened plan.fetches) (batch_calls x.waiting plan.calls)
-    (gathered_node x (s.placed n).tidy stay) (after_gather x plan.fetches (leaving plan) (batch_calls x.waiting plan.calls) plan.keys)
-    (gather_letters x x.waiting.opened plan.sends) (letters_are x (s.placed n).tidy stay) fit
+    (without_calls (with_fetches x.waiting plan.fetches) (leaving plan)) (pending_of x.waiting.opened plan.fetches) (batch_calls x.waiting plan.calls) (leavers x.waiting plan.away)
+    (gathered_node x tidy) (after_gather x plan.fetches (leaving plan) (batch_calls x.waiting plan.calls) plan.keys)
+    (errands_of x.waiting x.waiting.opened plan.sends) (gather_letters x x.waiting.opened plan.sends) (gathered_letters x tidy) (ap (leavers x.waiting) none) fit
 
 pub gather_event : (config : Config) (w : World) (n : ℕ) (h : Ghost) (k : Work) → IsCluster config → n < config.nodes → Shows config w h → node_step (w.nodes n) Gather ≡ Some k
     → All (λ letter. Fits letter.message) k.sent → Ends config w n k

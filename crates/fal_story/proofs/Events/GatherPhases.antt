@@ -1,40 +1,38 @@
 -- Where the calls of a node are when it has gathered.
-use Rattle.std.proofs.Common.{◌≡◌, ◌≢◌, ◌⊎◌, inl, inr, ⊎_elim, ℕ, ◌<◌, ◌≤◌, ◌==◌, List, ◌++◌, Option, Some, None, refl, sym, ap, subst, ◌∙◌, arith}
+use Rattle.std.proofs.Common.{◌≡◌, ◌≢◌, ◌⊎◌, inl, inr, ⊎_elim, ℕ, ◌<◌, ◌≤◌, ◌==◌, false, true, List, ◌++◌, Option, Some, None, refl, sym, ap, subst, ◌∙◌, arith}
 use Rattle.std.specs.List.{find}
-use Rattle.std.specs.Prelude.{IsTrue}
 use Rattle.std.proofs.lemmas.Option.{same_Some}
 use Rattle.fal_base.specs.declared.call.CallRec.{CallRec}
 use Rattle.fal_base.specs.declared.call.Config.{Config}
-use Rattle.fal_base.specs.declared.event.Actor.TheVariants.{Node}
 use Rattle.fal_base.specs.Tree.{Tree}
-use Rattle.fal_batch.specs.Fate.{Setting, Fate, Skips, Leaves, Joins, fate}
+use Rattle.fal_batch.specs.Fate.{Setting, Joins, fate}
 use Rattle.fal_batch.specs.Fate.{Waits as WaitsFor}
-use Rattle.fal_client.specs.Paths.{addressee}
 use Rattle.fal_node.specs.declared.batch.BatchCall.{BatchCall}
 use Rattle.fal_node.specs.Gather.{setting_at}
-use Rattle.fal_place.specs.Placement.{Placement}
 use Rattle.fal_wait.specs.declared.pending_fetch.PendingFetch.{PendingFetch}
 use Rattle.fal_wait.specs.declared.waiting_call.WaitingCall.{WaitingCall}
 use Rattle.fal_wait.specs.Waiting.{WaitList}
-use Rattle.fal_wire.specs.Ops.{op_field}
-use Rattle.fal_story.proofs.Events.Fates.{IsFate, fate_is}
+use Rattle.fal_story.proofs.Events.Fates.{IsFate, rests_by, rests_open}
+use Rattle.fal_story.proofs.Events.Going.{fate_now}
 use Rattle.fal_story.proofs.Events.HeldCalls.{MovesAt}
 use Rattle.fal_story.proofs.Events.Shows.{Ghost, Shows, Held, WaitsAt, PlannedAt, view_of, lane_of, planned_lane, calls_in}
 use Rattle.fal_story.proofs.Families.Plans.{IsPlanned}
 use Rattle.fal_story.proofs.Lists.Each.{Each, Apart, each_weaker, each_join}
-use Rattle.fal_story.proofs.Lists.GatherLists.{IsKept, IsJoined, IsGathered}
-use Rattle.fal_story.proofs.Lists.GatherPlan.{Stays}
+use Rattle.fal_story.proofs.Lists.GatherLists.{IsKept, IsJoined, IsGathered, Leaver}
 use Rattle.fal_story.proofs.Lists.Grown.{put_same}
 use Rattle.fal_story.proofs.Lists.Members.{IsIn, each_in, each_by, find_in, find_apart, find_absent, same_number, apart_join, apart_same, apart_back}
-use Rattle.fal_story.proofs.Phase.{Phase, Idle, Asked, Waits, Plans, Runs, Tells, IsFor, IsHeld}
+use Rattle.fal_story.proofs.Phase.{Phase, Idle, Asked, Waits, Plans, Runs, Tells, IsHeld}
 use Rattle.fal_base.specs.declared.key.Key.{Key}
 use Rattle.fal_story.proofs.Families.Asking.{Crosses}
 use Rattle.fal_story.proofs.Families.Clear.{IsShut}
-use Rattle.fal_story.proofs.Trees.Footprint.{footprint}
+use Rattle.fal_story.proofs.Lists.OpenedFetches.{IsAsked, bound_call}
+use Rattle.fal_story.proofs.Trees.Met.{AreOpen, IsOpen}
+use Rattle.fal_story.proofs.Trees.Among.{all_among}
+use Rattle.fal_locks.specs.declared.holder.Shut.{Shut}
+use Rattle.fal_locks.specs.Locks.{shut_keys_of}
 use Rattle.fal_story.proofs.Steps.Moved.{IsClear, MayMove, held_for}
 use Rattle.fal_story.proofs.Trees.Standing.{Reaches, table_of, tree_now}
 use Rattle.fal_story.proofs.View.{View}
-use Rattle.fal_story.specs.Clusters.{is_served}
 use Rattle.fal_story.specs.World.{World, put}
 
 -- ---- phases by lists
@@ -108,11 +106,10 @@ still_moves config v l walked kept (Tells answer) q same = inl (same, refl)
 
 -- ---- the fates of free calls
 
-stays_of : (table : Placement) (tree : Tree) (n : ℕ) (call : CallRec) (f : Fate) → IsFate table tree n call f → Stays f
-stays_of table tree n call Skips is = absurd is
-stays_of table tree n call (Leaves to) is = absurd is
-stays_of table tree n call (WaitsFor key) is = tt
-stays_of table tree n call (Joins denied parent last keys) is = tt
+-- a key that is not shut keeps nothing off
+off_key : (shut : Option Shut) (key : Key) → IsOpen (shut_keys_of shut) key → IsShut shut key → ⊥
+off_key None key off is = is
+off_key (Some s) key off is = let wrong : false ≡ true = sym off ∙ is in absurd (cc)
 
 module _ (config : Config) (w : World) (n : ℕ) (h : Ghost) (there : n < config.nodes) (s : Shows config w h) where
   abbrev list : WaitList
@@ -127,30 +124,28 @@ module _ (config : Config) (w : World) (n : ℕ) (h : Ghost) (there : n < config
   waits_at : (c : WaitingCall) → IsIn c list.calls → WaitsAt h.call h.phase n c
   waits_at c m = each_in (WaitsAt h.call h.phase n) list.calls c (s.held n).waiters m
 
-  -- nothing is shut
-  pub open_here : (w.nodes n).locks.shut ≡ None
-  open_here = (s.good.operation.stands n there).1
+  fate_at : (c : WaitingCall) → IsIn c list.calls → IsFate setting tree c.call (fate setting c.call)
+  fate_at c m = fate_now config w n h there s c (waits_at c m)
+
+  -- the keys on which a call rests by its fate
+  abbrev rests : CallRec → List Key
+  rests call = rests_by tree call (fate setting call)
 
   -- a call that waited for nothing may rest on other keys
   abbrev pub crossed : ℕ → List Key
-  crossed l = crossed_from (footprint tree (h.call l)) (h.crossed l) (h.phase l)
+  crossed l = crossed_from (rests (h.call l)) (h.crossed l) (h.phase l)
 
-  fate_at : (c : WaitingCall) → IsIn c list.calls → IsFate (table_of config) tree n c.call (fate setting c.call)
-  fate_at c m =
+  free_crossed : (l m : ℕ) → h.phase l ≡ Waits m None → rests (h.call l) ≡ crossed l
+  free_crossed l m e = ap (crossed_from (rests (h.call l)) (h.crossed l)) (sym e)
+
+  -- what holds of a free call and of the keys on which it rests holds of the lane's
+  by_lane : (P : CallRec → List Key → Type 0) (c : WaitingCall) (l : ℕ) → IsIn c list.calls → c.fetch ≡ None → lane_of c ≡ l → P c.call (rests c.call) → P (h.call l) (crossed l)
+  by_lane P c l m free lane is =
       let at = waits_at c m in
-      let l = lane_of c in
-      let busy : h.phase l ≢ Idle = λ e. let wrong : Idle ≡ Waits n c.fetch = sym e ∙ at.0 in absurd (cc) in
-      let here : IsFor n (h.phase l) = subst (IsFor n) (sym at.0) refl in
-      fate_is config n (w.nodes n) tree c.call (s.placed n) open_here (s.good.ground.replicas n)
-      (subst (λ (k : CallRec). addressee (table_of config) k.op ≡ Node n) (sym at.1) (s.good.lanes.routed l n there here))
-      (subst (λ (k : CallRec). IsTrue (is_served k.op)) (sym at.1) (s.good.lanes.under_way.served l busy))
-      (subst (λ (k : CallRec). op_field.Fits k.op) (sym at.1) (s.good.lanes.under_way.fits l busy))
+      let here : h.phase l ≡ Waits n None = ap h.phase (sym lane) ∙ at.0 ∙ ap (Waits n) free in
+      subst (P (h.call l)) (free_crossed l n here) (subst (λ (z : CallRec). P z (rests z)) (at.1 ∙ ap h.call lane) is)
 
-  -- no call leaves the node
-  pub all_stay : Each (λ c. c.fetch ≡ None → Stays (fate setting c.call)) list.calls
-  all_stay = each_by _ list.calls (λ c m _. stays_of (table_of config) tree n c.call (fate setting c.call) (fate_at c m))
-
-  module _ (after : WaitList) (opened : List PendingFetch) (batch : List BatchCall) (g : IsGathered setting list after opened batch) where
+  module _ (after : WaitList) (opened : List PendingFetch) (batch : List BatchCall) (left : List Leaver) (g : IsGathered setting list after opened batch left) where
     abbrev pub phase : ℕ → Phase
     phase = listed n after.calls batch h.phase
 
@@ -161,7 +156,7 @@ module _ (config : Config) (w : World) (n : ℕ) (h : Ghost) (there : n < config
     kept_was : (c : WaitingCall) → IsIn c after.calls → (was : WaitingCall) × (IsIn was list.calls × (c.call ≡ was.call))
     kept_was c m =
         let k = each_in (IsKept setting list opened) after.calls c g.kept m in
-        (k.0, (k.1.0, ⊎_elim (λ e. ap (λ (y : WaitingCall). y.call) e) (λ e. ap (λ (y : WaitingCall). y.call) e.1.1.2) k.1.1))
+        (k.0, (k.1.0, bound_call setting opened k.0 c k.1.1))
 
     -- and waits as the lists say
     kept_held : (l : ℕ) → WaitsIn n after.calls l (phase l) → IsHeld n (h.phase l)
@@ -198,8 +193,17 @@ module _ (config : Config) (w : World) (n : ℕ) (h : Ghost) (there : n < config
     abbrev pub ComesTo : CallRec → List Key → Key → Type 0
     ComesTo call keys key = Reaches tree call key × Crosses tree call key keys
 
-    free_crossed : (l m : ℕ) → h.phase l ≡ Waits m None → footprint tree (h.call l) ≡ crossed l
-    free_crossed l m e = ap (crossed_from (footprint tree (h.call l)) (h.crossed l)) (sym e)
+    -- the key of a new fetch is not shut
+    pub new_off : (f : PendingFetch) → IsIn f opened → IsShut (w.nodes n).locks.shut f.key → ⊥
+    new_off f m =
+        let a = each_in (IsAsked setting list.calls) opened f g.asked m in
+        off_key (w.nodes n).locks.shut f.key (subst (IsFate setting tree a.0.call) a.1.2 (fate_at a.0 a.1.0)).3
+
+    -- a free call that waits for a key comes to it
+    waits_for_key : (c : WaitingCall) (key : Key) → IsIn c list.calls → fate setting c.call ≡ WaitsFor key → ComesTo c.call (rests c.call) key
+    waits_for_key c key m is =
+        let z = subst (IsFate setting tree c.call) is (fate_at c m) in
+        subst (λ f. ComesTo c.call (rests_by tree c.call f) key) (sym is) (z.0, z.1)
 
     -- a call that waits on a new fetch was free, and its walk comes to the key
     kept_reach : (l : ℕ) (f : PendingFetch) → IsIn f opened → WaitsIn n after.calls l (Waits n (Some f.number)) → ComesTo (h.call l) (crossed l) f.key
@@ -219,12 +223,9 @@ module _ (config : Config) (w : World) (n : ℕ) (h : Ghost) (there : n < config
         let other = e.1.0 in
         let number : f.number ≡ other.number = same_Some f.number other.number (fetch ∙ ap (λ (z : WaitingCall). z.fetch) e.1.1.2) in
         let same : other ≡ f = apart_same (λ (z : PendingFetch). z.number) opened other f numbers_apart e.1.1.0 m (sym number) in
-        let reach : ComesTo was.call (footprint tree was.call) other.key = subst (IsFate (table_of config) tree n was.call) e.1.1.1 (fate_at was k.1.0) in
         let lane : lane_of was ≡ l = ap lane_of (sym e.1.1.2) ∙ y.1.1 in
-        let free : h.phase l ≡ Waits n None = ap h.phase (sym lane) ∙ at.0 ∙ ap (Waits n) e.0 in
-        let at_key : ComesTo was.call (footprint tree was.call) f.key = subst (λ (z : PendingFetch). ComesTo was.call (footprint tree was.call) z.key) same reach in
-        let at_call : ComesTo (h.call l) (footprint tree (h.call l)) f.key = subst (λ (z : CallRec). ComesTo z (footprint tree z) f.key) (at.1 ∙ ap h.call lane) at_key in
-        subst (λ keys. ComesTo (h.call l) keys f.key) (free_crossed l n free) at_call)
+        let reach : ComesTo was.call (rests was.call) f.key = waits_for_key was f.key k.1.0 (e.1.1.1 ∙ ap (λ (z : PendingFetch). WaitsFor z.key) same) in
+        by_lane (λ call keys. ComesTo call keys f.key) was l k.1.0 e.0 lane reach)
         k.1.1
 
     -- who waits on a new fetch has come to its key
@@ -244,8 +245,11 @@ module _ (config : Config) (w : World) (n : ℕ) (h : Ghost) (there : n < config
     abbrev risen : View
     risen = record (view_of config w h) { opened = put (view_of config w h).opened n after.opened }
 
-    all_open : (l : ℕ) → IsClear risen n (crossed l)
-    all_open l key among is = subst (λ s. IsShut s key) open_here is
+    -- a free call rests on no shut key
+    free_off : (c : WaitingCall) (l : ℕ) → IsIn c list.calls → c.fetch ≡ None → lane_of c ≡ l → IsClear risen n (crossed l)
+    free_off c l m free lane =
+        let off : AreOpen setting.shut (crossed l) = by_lane (λ call keys. AreOpen setting.shut keys) c l m free lane (rests_open setting tree c.call (fate setting c.call) (fate_at c m)) in
+        λ key among. off_key (w.nodes n).locks.shut key (all_among (IsOpen setting.shut) (crossed l) key off among)
 
     waits_move : (l : ℕ) (q : Phase) → WaitsIn n after.calls l q → (q ≡ h.phase l) ⊎ MayMove config risen l (h.phase l) q (crossed l)
     waits_move l q y =
@@ -267,9 +271,19 @@ module _ (config : Config) (w : World) (n : ℕ) (h : Ghost) (there : n < config
           held,
           subst (λ m. f.number < m) (sym (put_same (view_of config w h).opened n after.opened)) new.1,
           λ j a at_place same. let below = (s.good.asking.fetches n j a at_place).0 in let low = new.0 in absurd (omega arith),
-          all_open l,
+          free_off was l k.1.0 e.0 lane,
         )))
         k.1.1
+
+    -- the call is planned as that of a batch says, by the node's own table
+    abbrev PlannedBy : CallRec → BatchCall → Type 0
+    PlannedBy c x = IsPlanned setting.table tree setting.me c (rests c) (record { call = c; denied = x.denied; parent = x.parent; last = x.last })
+
+    -- a free call that joins is planned as the tree says
+    joins_as : (c : WaitingCall) (x : BatchCall) → IsIn c list.calls → (keys : List Key) → fate setting c.call ≡ Joins x.denied x.parent x.last keys → PlannedBy c.call x
+    joins_as c x m keys is =
+        let z = subst (IsFate setting tree c.call) is (fate_at c m) in
+        subst (λ f. IsPlanned setting.table tree setting.me c.call (rests_by tree c.call f) (record { call = c.call; denied = x.denied; parent = x.parent; last = x.last })) (sym is) z.0
 
     plans_move : (l : ℕ) (q : Phase) → PlansIn n batch l q → MayMove config risen l (h.phase l) q (crossed l)
     plans_move l q y =
@@ -278,18 +292,15 @@ module _ (config : Config) (w : World) (n : ℕ) (h : Ghost) (there : n < config
         let at = waits_at j.0 j.1.0 in
         let lane : lane_of j.0 ≡ l = ap (λ (c : CallRec). c.id.client) (sym j.1.2) ∙ y.1.1 in
         let held : IsHeld n (h.phase l) = subst (λ i. IsHeld n (h.phase i)) lane (subst (IsHeld n) (sym at.0) refl) in
-        let free : h.phase l ≡ Waits n None = ap h.phase (sym lane) ∙ at.0 ∙ ap (Waits n) j.1.1 in
-        let planned : IsPlanned (table_of config) tree n j.0.call (footprint tree j.0.call) (record { call = j.0.call; denied = x.denied; parent = x.parent; last = x.last })
-        = subst (IsFate (table_of config) tree n j.0.call) j.1.3.1 (fate_at j.0 j.1.0) in
-        let own : IsPlanned (table_of config) tree n x.call (footprint tree x.call) x
-        = subst (λ (c : CallRec). IsPlanned (table_of config) tree n c (footprint tree c) (record { call = c; denied = x.denied; parent = x.parent; last = x.last })) (sym j.1.2) planned in
-        let call : x.call ≡ h.call l = j.1.2 ∙ at.1 ∙ ap h.call lane in
-        let by_lane : IsPlanned (table_of config) tree n (h.call l) (footprint tree (h.call l)) x = subst (λ c. IsPlanned (table_of config) tree n c (footprint tree c) x) call own in
+        let own : IsPlanned setting.table tree setting.me x.call (rests x.call) x = subst (λ (c : CallRec). PlannedBy c x) (sym j.1.2) (joins_as j.0 x j.1.0 j.1.3.0 j.1.3.1) in
+        let here = subst (λ t. IsPlanned t tree setting.me x.call (rests x.call) x) (s.placed n).table own in
+        let planned : IsPlanned (table_of config) tree n j.0.call (rests j.0.call) x
+        = subst (λ (c : CallRec). IsPlanned (table_of config) tree n c (rests c) x) j.1.2 (subst (λ m. IsPlanned (table_of config) tree m x.call (rests x.call) x) (s.placed n).number here) in
         subst (λ p. MayMove config risen l (h.phase l) p (crossed l)) (sym y.1.2)
-        (held, there, subst (λ keys. IsPlanned (table_of config) tree n (h.call l) keys x) (free_crossed l n free) by_lane, all_open l)
+        (held, there, by_lane (λ call keys. IsPlanned (table_of config) tree n call keys x) j.0 l j.1.0 j.1.1 lane planned, free_off j.0 l j.1.0 j.1.1 lane)
 
     still : (l : ℕ) → phase l ≡ h.phase l → ((phase l ≡ h.phase l) × (h.crossed l ≡ crossed l)) ⊎ MayMove config risen l (h.phase l) (phase l) (crossed l)
-    still l same = still_moves config risen l (footprint tree (h.call l)) (h.crossed l) (h.phase l) (phase l) same
+    still l same = still_moves config risen l (rests (h.call l)) (h.crossed l) (h.phase l) (phase l) same
 
     pub may_move : (l : ℕ) → ((phase l ≡ h.phase l) × (h.crossed l ≡ crossed l)) ⊎ MayMove config risen l (h.phase l) (phase l) (crossed l)
     may_move l =

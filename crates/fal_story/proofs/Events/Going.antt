@@ -1,19 +1,70 @@
--- A call that waits at a node is not skipped there, and does not leave it for another node.
-use Rattle.std.proofs.Common.{◌≡◌, ◌≢◌, ℕ, ◌<◌, refl, sym, subst, ◌∙◌}
+-- What becomes of the calls that wait at a node while nothing is blocked or shut and no name has a rule: each waits for a directory, or is ready.
+use Rattle.std.proofs.Common.{◌≡◌, ◌≢◌, ⊎_elim, ℕ, ◌<◌, true, false, List, [], Option, Some, None, IsTrue, refl, sym, ap, subst, ◌∙◌}
+use Rattle.fal_base.specs.declared.barred.Barred.TheVariants.{Nothing}
 use Rattle.fal_base.specs.declared.call.CallRec.{CallRec}
 use Rattle.fal_base.specs.declared.call.Config.{Config}
+use Rattle.fal_base.specs.declared.event.Actor.TheVariants.{Node}
+use Rattle.fal_base.specs.declared.op.Op.{Op}
+use Rattle.fal_base.specs.declared.op.Op.TheVariants as op
+use Rattle.fal_base.specs.declared.path.PathArg.TheVariants.{Good, Bad}
 use Rattle.fal_base.specs.Tree.{Tree}
-use Rattle.fal_batch.specs.Fate.{Fate, Skips, Leaves, Waits, Joins, fate}
+use Rattle.fal_batch.specs.Fate.{Setting, Fate, Skips, Leaves, Waits, Joins, fate, goes_by_parent, is_blocked, last_of}
+use Rattle.fal_client.specs.Paths.{addressee}
+use Rattle.fal_dentry.specs.Walk.{is_among}
+use Rattle.fal_exec.specs.RowCall.{row_names}
+use Rattle.fal_locks.specs.Locks.{shut_keys_of}
 use Rattle.fal_node.specs.Gather.{setting_at}
-use Rattle.fal_place.specs.Placement.{Placement}
+use Rattle.fal_node.specs.State.{blocked_names}
+use Rattle.fal_place.specs.Placement.{route}
 use Rattle.fal_wait.specs.declared.waiting_call.WaitingCall.{WaitingCall}
-use Rattle.fal_story.proofs.Events.Fates.{IsFate, fate_is}
+use Rattle.fal_wire.specs.Names.{path_field, path_arg_field}
+use Rattle.fal_wire.specs.Ops.{op_field, path_and_mode, path_and_want, path_and_size}
+use Rattle.fal_story.proofs.Events.Fates.{IsFate, IsFateOf, fate_is, named_op}
 use Rattle.fal_story.proofs.Events.Shows.{Ghost, Shows, WaitsAt, lane_of}
 use Rattle.fal_story.proofs.Lists.Each.{Each, each_weaker}
+use Rattle.fal_story.proofs.Lists.GatherPlan.{Stays}
 use Rattle.fal_story.proofs.Phase.{Idle, IsFor}
-use Rattle.fal_story.proofs.Trees.Standing.{table_of, tree_now}
 use Rattle.fal_story.proofs.Phase as phase
+use Rattle.fal_story.proofs.Ranges.FateRanges.{never_by_parent, not_elsewhere, sent_here}
+use Rattle.fal_story.proofs.Trees.Standing.{table_of, tree_now}
+use Rattle.fal_story.specs.Clusters.{is_served}
 use Rattle.fal_story.specs.World.{World}
+
+-- ---- the names of a call
+
+-- a served call has one good path
+abbrev HasNames : Op → Type 0
+HasNames call = (names : List (List ℕ)) × ((row_names call ≡ Some names) × path_field.Fits names)
+
+names_of : (call : Op) → IsTrue (is_served call) → op_field.Fits call → HasNames call
+unfolding op_field path_and_mode path_and_want path_and_size path_arg_field
+names_of (op.Mkdir (Good names) mode) served fits = (names, (refl, fits.0))
+names_of (op.Mkdir (Bad fault raw) mode) served fits = absurd (fits.0)
+names_of (op.Create (Good names) mode) served fits = (names, (refl, fits.0))
+names_of (op.Create (Bad fault raw) mode) served fits = absurd (fits.0)
+names_of (op.Stat (Good names)) served fits = (names, (refl, fits))
+names_of (op.Stat (Bad fault raw)) served fits = absurd fits
+names_of (op.Access (Good names) want) served fits = (names, (refl, fits.0))
+names_of (op.Access (Bad fault raw) want) served fits = absurd (fits.0)
+names_of (op.Truncate (Good names) size) served fits = (names, (refl, fits.0))
+names_of (op.Truncate (Bad fault raw) size) served fits = absurd (fits.0)
+names_of (op.Unlink (Good names)) served fits = (names, (refl, fits))
+names_of (op.Unlink (Bad fault raw)) served fits = absurd fits
+names_of other served fits = absurd (cc)
+
+-- ---- fates that do not come
+
+-- a call whose names lead to this node does not leave it, where no name goes by its parent
+stays_by : (s : Setting) (tree : Tree) (call : CallRec) (names : List (List ℕ)) (f : Fate)
+    → ((last : Option (List ℕ)) → goes_by_parent s.table last ≡ false) → route s.table names ≡ s.me → IsFateOf s tree call (Some names) f → Stays f
+stays_by s tree call names Skips by here is = tt
+stays_by s tree call names (Leaves to) by here is =
+    ⊎_elim
+    (λ away. let wrong : false ≡ true = sym (not_elsewhere s names here) ∙ away.0 in absurd (cc))
+    (λ away. let wrong : false ≡ true = sym (by (last_of names)) ∙ away.0 in absurd (cc))
+    is
+stays_by s tree call names (Waits key) by here is = tt
+stays_by s tree call names (Joins denied parent last keys) by here is = tt
 
 -- the call is to wait for a directory, or is ready
 abbrev pub GoesOn : Fate → Type 0
@@ -22,22 +73,65 @@ GoesOn (Leaves to) = ⊥
 GoesOn (Waits key) = Unit {0}
 GoesOn (Joins denied parent last keys) = Unit {0}
 
-goes_on : (table : Placement) (tree : Tree) (n : ℕ) (call : CallRec) (f : Fate) → IsFate table tree n call f → GoesOn f
-goes_on table tree n call Skips is = absurd is
-goes_on table tree n call (Leaves to) is = absurd is
-goes_on table tree n call (Waits key) is = tt
-goes_on table tree n call (Joins denied parent last keys) is = tt
+bars_none : (last : Option (List ℕ)) → is_blocked Nothing last ≡ false
+bars_none None = refl
+bars_none (Some name) = refl
 
-fate_goes : (config : Config) (w : World) (n : ℕ) (h : Ghost) (x : WaitingCall) → n < config.nodes → Shows config w h → WaitsAt h.call h.phase n x → GoesOn (fate (setting_at (w.nodes n)) x.call)
-fate_goes config w n h x there s at =
-    let l = lane_of x in
-    let busy : h.phase l ≢ Idle = (λ e. let wrong : Idle ≡ phase.Waits n x.fetch = sym e ∙ at.0 in absurd (cc)) in
-    let to = s.good.lanes.routed l n there (subst (IsFor n) (sym at.0) refl) in
-    let tree = tree_now w.commits in
-    subst (λ (c : CallRec). GoesOn (fate (setting_at (w.nodes n)) c)) (sym at.1)
-    (goes_on (table_of config) tree n (h.call l) (fate (setting_at (w.nodes n)) (h.call l))
-    (fate_is config n (w.nodes n) tree (h.call l) (s.placed n) (s.good.operation.stands n there).1 (s.good.ground.replicas n) to (s.good.lanes.under_way.served l busy) (s.good.lanes.under_way.fits l busy)))
+-- nor is it skipped, where nothing is blocked or shut
+goes_by : (s : Setting) (tree : Tree) (call : CallRec) (names : List (List ℕ)) (f : Fate) → s.blocked ≡ Nothing → s.shut ≡ [] → Stays f → IsFateOf s tree call (Some names) f → GoesOn f
+goes_by s tree call names Skips blocked shut stays is =
+    ⊎_elim
+    (λ bars. let wrong : false ≡ true = sym (bars_none (last_of names)) ∙ ap (λ b. is_blocked b (last_of names)) (sym blocked) ∙ bars in absurd (cc))
+    (λ meets. let wrong : false ≡ true = ap (is_among meets.0) (sym shut) ∙ meets.2 in absurd (cc))
+    is
+goes_by s tree call names (Leaves to) blocked shut stays is = stays
+goes_by s tree call names (Waits key) blocked shut stays is = tt
+goes_by s tree call names (Joins denied parent last keys) blocked shut stays is = tt
 
--- each waiting call is one that goes on
-pub fates_go : (config : Config) (w : World) (n : ℕ) (h : Ghost) → n < config.nodes → Shows config w h → Each (λ x. GoesOn (fate (setting_at (w.nodes n)) x.call)) (w.nodes n).waiting.calls
-fates_go config w n h there s = each_weaker (WaitsAt h.call h.phase n) _ (w.nodes n).waiting.calls (λ x at. fate_goes config w n h x there s at) (s.held n).waiters
+-- ---- the calls that wait at a node
+
+module _ (config : Config) (w : World) (n : ℕ) (h : Ghost) (there : n < config.nodes) (s : Shows config w h) where
+  abbrev setting : Setting
+  setting = setting_at (w.nodes n)
+
+  abbrev tree : Tree
+  tree = tree_now w.commits
+
+  names_at : (c : WaitingCall) → WaitsAt h.call h.phase n c → HasNames c.call.op
+  names_at c at =
+      let l = lane_of c in
+      let busy : h.phase l ≢ Idle = λ e. let wrong : Idle ≡ phase.Waits n c.fetch = sym e ∙ at.0 in absurd (cc) in
+      subst (λ (k : CallRec). HasNames k.op) (sym at.1) (names_of (h.call l).op (s.good.lanes.under_way.served l busy) (s.good.lanes.under_way.fits l busy))
+
+  -- each waiting call has a fate by the tree
+  pub fate_now : (c : WaitingCall) → WaitsAt h.call h.phase n c → IsFate setting tree c.call (fate setting c.call)
+  fate_now c at = let names = names_at c at in fate_is setting tree c.call names.0 (s.good.ground.replicas n) names.1.0 names.1.1
+
+  fate_named : (c : WaitingCall) (at : WaitsAt h.call h.phase n c) → IsFateOf setting tree c.call (Some (names_at c at).0) (fate setting c.call)
+  fate_named c at = subst (λ o. IsFateOf setting tree c.call o (fate setting c.call)) (names_at c at).1.0 (fate_now c at)
+
+  -- since each call is where it was sent, by a table that has no rules, none leaves
+  pub stays_now : (c : WaitingCall) → WaitsAt h.call h.phase n c → Stays (fate setting c.call)
+  stays_now c at =
+      let names = names_at c at in
+      let by = λ (last : Option (List ℕ)). ap (λ t. goes_by_parent t last) (s.placed n).table ∙ never_by_parent config.nodes last in
+      let sent = s.good.lanes.routed (lane_of c) n there (subst (IsFor n) (sym at.0) refl) in
+      let to : addressee (table_of config) c.call.op ≡ Node n = ap (λ (k : CallRec). addressee (table_of config) k.op) at.1 ∙ sent in
+      let route_is = sent_here (table_of config) c.call.op names.0 n (named_op c.call.op names.0 names.1.0) to in
+      let here : route setting.table names.0 ≡ setting.me = ap (λ t. route t names.0) (s.placed n).table ∙ route_is ∙ sym (s.placed n).number in
+      stays_by setting tree c.call names.0 (fate setting c.call) by here (fate_named c at)
+
+  -- since nothing is blocked or shut, none is skipped
+  goes_now : (c : WaitingCall) → WaitsAt h.call h.phase n c → GoesOn (fate setting c.call)
+  goes_now c at =
+      let blocked : setting.blocked ≡ Nothing = ap (λ b. blocked_names b) (s.placed n).blocked in
+      let shut : setting.shut ≡ [] = ap (λ o. shut_keys_of o) (s.good.operation.stands n there).1 in
+      goes_by setting tree c.call (names_at c at).0 (fate setting c.call) blocked shut (stays_now c at) (fate_named c at)
+
+  -- none of the calls that wait leaves
+  pub fates_stay : Each (λ x. x.fetch ≡ None → Stays (fate setting x.call)) (w.nodes n).waiting.calls
+  fates_stay = each_weaker (WaitsAt h.call h.phase n) _ (w.nodes n).waiting.calls (λ x at _. stays_now x at) (s.held n).waiters
+
+  -- each waiting call is one that goes on
+  pub fates_go : Each (λ x. GoesOn (fate setting x.call)) (w.nodes n).waiting.calls
+  fates_go = each_weaker (WaitsAt h.call h.phase n) _ (w.nodes n).waiting.calls (λ x at. goes_now x at) (s.held n).waiters

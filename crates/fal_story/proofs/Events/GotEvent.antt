@@ -26,7 +26,7 @@ use Rattle.fal_dentry.specs.Walk.{is_among}
 use Rattle.fal_duty.specs.Duties.{found_of}
 use Rattle.fal_exec.proofs.Stopped.{stopped_answer, stopped_makes}
 use Rattle.fal_exec.specs.RowCall.{row_names}
-use Rattle.fal_node.specs.Deliver.{installed, emptied, refusals, refuse, settle, settle_pending}
+use Rattle.fal_node.specs.Deliver.{learned, dismissed, refusals, refuse, settle, settle_pending}
 use Rattle.fal_wire.specs.declared.letter.Letter.{Letter}
 use Rattle.fal_node.specs.Letters.{begun, reply_letter}
 use Rattle.fal_wait.specs.declared.pending_fetch.PendingFetch.{PendingFetch}
@@ -137,14 +137,14 @@ off_may config v n number q may l =
 -- ---- a directory was found
 
 learns : (config : Config) (w : World) (n : ℕ) (h : Ghost) (e p : ℕ) (dentry : Dentry) (f : PendingFetch) → n < config.nodes → n ≢ 255 → Shows config w h → AllFit [] → IsAnswering w n h p f
-    → IsPosted (posts_of w.envelopes) e (Node n) p (message.FetchGot f.number f.key (found.Dir dentry)) → Ends config w n (begun (installed (w.nodes n) f.number f.key dentry))
-unfolding installed
+    → IsPosted (posts_of w.envelopes) e (Node n) p (message.FetchGot f.number f.key (found.Dir dentry)) → Ends config w n (begun (learned (w.nodes n) f.number f.key dentry))
+unfolding learned
 learns config w n h e p dentry f there other s fit a at =
     let node = w.nodes n in
     let list = node.waiting in
     let settled = after_settle list f.number in
     let v = view_of config w h in
-    let k = begun (installed node f.number f.key dentry) in
+    let k = begun (learned node f.number f.key dentry) in
     let q = Waits n None in
     let later : Ghost = record h { phase = off_all n f.number q h.phase } in
     let is : HasDir (now v) f.key dentry = s.good.asking.found_dirs e n p a.place (asking_of f) dentry a.at at in
@@ -251,7 +251,7 @@ waiters_fine config w n h p reply number s =
 -- the waiters leave with this errno
 leaves : (config : Config) (w : World) (n : ℕ) (h : Ghost) (p : ℕ) (errno : Errno) (f : PendingFetch) → n < config.nodes → n ≢ 255 → Shows config w h → IsAnswering w n h p f → p ≤ length w.commits → StopsAt (tree_at w.commits p) f.key errno
     → AllFit (refusals (w.nodes n).waiting errno p f.waiters) → Ends config w n (refuse (w.nodes n) p errno f)
-unfolding emptied
+unfolding dismissed
 leaves config w n h p errno f there other s a past stops fit =
     let node = w.nodes n in
     let list = node.waiting in
@@ -300,7 +300,7 @@ pending_event : (config : Config) (w : World) (n : ℕ) (h : Ghost) (e p number 
     → IsPosted (posts_of w.envelopes) e (Node n) p (message.FetchGot number key what) → fetch_of (w.nodes n).waiting number ≡ Some f → AllFit (settle (w.nodes n) p key what f).sent → Ends config w n (settle (w.nodes n) p key what f)
 pending_event config w n h e p number key (found.Dir dentry) f there other s at pending fit =
     let a = answers config w n h e p number key (found.Dir dentry) f s at pending in
-    subst (λ q. Ends config w n (begun (installed (w.nodes n) f.number q dentry))) (sym a.key_is) (learns config w n h e p dentry f there other s fit a.answering a.posted)
+    subst (λ q. Ends config w n (begun (learned (w.nodes n) f.number q dentry))) (sym a.key_is) (learns config w n h e p dentry f there other s fit a.answering a.posted)
 pending_event config w n h e p number key found.Nothing f there other s at pending fit =
     let a = answers config w n h e p number key found.Nothing f s at pending in
     let was = s.good.asking.founds e n p f.number f.key found.Nothing a.posted in

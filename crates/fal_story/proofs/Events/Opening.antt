@@ -186,7 +186,7 @@ node_ranged_at_start n nodes limit = record {
 
 node_counted_at_start : (n nodes limit : ℕ) → IsNodeCounted 0 (opening_node n nodes limit)
 unfolding opening_node
-node_counted_at_start n nodes limit = record { tickets = omega arith; items = omega arith; batches = omega arith; fetches = omega arith }
+node_counted_at_start n nodes limit = record { tickets = omega arith; items = omega arith; batches = omega arith; operation = omega arith; fetches = omega arith }
 
 pub opening_ranged : (config : Config) → IsRanged (opening_world config)
 opening_ranged config = record { nodes = λ n. node_ranged_at_start n config.nodes config.batch; counted = λ n. node_counted_at_start n config.nodes config.batch; envelopes = tt }

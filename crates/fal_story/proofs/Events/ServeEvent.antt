@@ -140,7 +140,7 @@ served_ends config w n number h item below s there can fit =
     let is = asks_fetch (w.nodes n) item.message can in
     let explicit : item ≡ record { number = item.number; message = message.FetchAsk is.0 is.1.0 is.1.1.0 } = λ i. record { number = item.number; message = is.1.1.1 i } in
     let in_step = served_in config w n h sent.0 sent.1.0 item.number is.0 is.1.0 is.1.1.0 below s (subst (IsPosted (posts_of w.envelopes) sent.0 (Node n) sent.1.0) is.1.1.1 sent.1.1) in
-    (h, ends config w n (served (w.nodes n) item) h fit (subst (λ (i : Item). InStep config w n (served (w.nodes n) i) h (w.nodes n).waiting.calls (calls_in (w.nodes n).batches)) (sym explicit) in_step))
+    (h, ends config w n (served (w.nodes n) item) h fit (subst (λ (i : Item). InStep config w n (served (w.nodes n) i) h (served (w.nodes n) i).node.waiting.calls (calls_in (served (w.nodes n) i).node.batches)) (sym explicit) in_step))
 
 pub serve_event : (config : Config) (w : World) (n number : ℕ) (h : Ghost) (k : Work) → IsCluster config → n < config.nodes → Shows config w h → node_step (w.nodes n) (Serve number) ≡ Some k
     → All (λ letter. Fits letter.message) k.sent → Ends config w n k

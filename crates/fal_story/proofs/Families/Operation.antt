@@ -13,6 +13,8 @@ use Rattle.fal_base.specs.declared.row.Update.{Update}
 use Rattle.fal_base.specs.Commits.{Commit}
 use Rattle.fal_base.specs.Tree.{Tree, row_at, same_key}
 use Rattle.fal_base.specs.Walk.{Ready, walk, dentry_of}
+use Rattle.fal_base.specs.Updates.{keys_of}
+use Rattle.fal_base.proofs.Entries.{SomeUnder}
 use Rattle.fal_dentry.specs.Walk.{is_among}
 use Rattle.fal_node.specs.Exec.{is_making}
 use Rattle.fal_place.specs.Placement.{Placement, owner}
@@ -21,8 +23,8 @@ use Rattle.fal_wire.specs.declared.message.Message.TheVariants as message
 use Rattle.fal_locks.specs.declared.holder.Shut.{Shut}
 use Rattle.fal_story.proofs.Lists.Grown.{tells}
 use Rattle.fal_story.proofs.Phase.{Phase, Runs, IsPast}
-use Rattle.fal_story.proofs.Trees.Laid.{owned, keys_of}
-use Rattle.fal_story.proofs.Trees.Standing.{tree_now, NoneUnder, SomeUnder}
+use Rattle.fal_story.proofs.Trees.Laid.{owned}
+use Rattle.fal_story.proofs.Trees.Standing.{tree_now, NoneUnder}
 use Rattle.fal_story.proofs.View.{Post, Asking, IsPosted, Kept, Work, Rests, Walks, Locks, Counts, Ends}
 
 -- ---- numbers of nodes
@@ -209,3 +211,25 @@ pub record Operation (nodes : ℕ) (table : Placement) (shut : ℕ → Option Sh
   pub unmaking : (l : ℕ) → phase l ≡ Runs → is_making (call l).op ≡ false
   pub quiet : IsQuiet work own
   pub starts : Starts starting operation work seq phase
+
+-- nodes are elsewhere, or records tell more, and the coordinator is where it was
+module _ {nodes : ℕ} {table : Placement} {shut shut' : ℕ → Option Shut} {queued queued' : ℕ → Option Message} {last last' : ℕ → ℕ} {due due' : ℕ → List Update} {operation : ℕ} {work : Work} {starts : List (ℕ × ℕ)}
+    {own : List Asking} {posts posts' : List Post} {commits : List Commit} {seq : ℕ → ℕ} {call : ℕ → CallRec} {phase : ℕ → Phase} (g : Operation nodes table shut queued last due operation work starts own posts commits seq call phase) where
+  pub operation_placed : ((n : ℕ) → n < nodes → Stands table operation work n (shut' n) (queued' n) (last' n) (due' n)) → ((n : ℕ) → nodes ≤ n → shut' n ≡ None)
+      → ((e p : ℕ) (to : Actor) (m : Message) → IsPosted posts' e to p m → IsTold nodes table (tree_now commits) operation work shut' last' to m)
+      → Operation nodes table shut' queued' last' due' operation work starts own posts' commits seq call phase
+  operation_placed stands beyond told = record {
+    stands = stands;
+    beyond = beyond;
+    told = told;
+    walks = g.walks;
+    heard = g.heard;
+    within = g.within;
+    dirs = g.dirs;
+    counts = g.counts;
+    runs = g.runs;
+    running = g.running;
+    unmaking = g.unmaking;
+    quiet = g.quiet;
+    starts = g.starts;
+  }

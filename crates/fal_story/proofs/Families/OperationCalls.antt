@@ -10,9 +10,8 @@ use Rattle.fal_base.specs.Tree.{Tree}
 use Rattle.fal_node.specs.Exec.{is_making}
 use Rattle.fal_place.specs.Placement.{Placement}
 use Rattle.fal_wire.specs.declared.message.Message.{Message}
-use Rattle.fal_wire.specs.declared.message.Message.TheVariants as message
 use Rattle.fal_locks.specs.declared.holder.Shut.{Shut}
-use Rattle.fal_story.proofs.Families.Operation.{AreKept, IsKept, IsOf, IsQuiet, IsTold, Operation}
+use Rattle.fal_story.proofs.Families.Operation.{AreKept, IsKept, IsOf, IsQuiet, IsTold, Operation, operation_placed}
 use Rattle.fal_story.proofs.Lists.Grown.{from_put, put_all, put_both, put_other}
 use Rattle.fal_story.proofs.Phase.{Phase, Runs, IsPast, IsSteady}
 use Rattle.fal_story.proofs.Trees.Standing.{tree_now}
@@ -55,24 +54,12 @@ module _ {nodes : ℕ} {table : Placement} {shut : ℕ → Option Shut} {queued 
   -- one record more, of which what it tells is so
   pub operation_posted : (to : Actor) (p : ℕ) (m : Message) → IsTold nodes table (tree_now commits) operation work shut last to m
       → Operation nodes table shut queued last due operation work starts own (posts ++ post to p m ∷ []) commits seq call phase
-  operation_posted to p m fine = record {
-    stands = g.stands;
-    beyond = g.beyond;
-    told = λ e q other n h. ⊎_elim
-        (λ x. g.told e q other n x)
-        (λ x. subst (IsTold nodes table (tree_now commits) operation work shut last other) x.2 (subst (λ z. IsTold nodes table (tree_now commits) operation work shut last z m) x.0 fine))
-        (posted_more posts to p m e other q n h);
-    walks = g.walks;
-    heard = g.heard;
-    within = g.within;
-    dirs = g.dirs;
-    counts = g.counts;
-    runs = g.runs;
-    running = g.running;
-    unmaking = g.unmaking;
-    quiet = g.quiet;
-    starts = g.starts;
-  }
+  operation_posted to p m fine =
+      operation_placed g g.stands g.beyond
+      (λ e q other n h. ⊎_elim
+      (λ x. g.told e q other n x)
+      (λ x. subst (IsTold nodes table (tree_now commits) operation work shut last other) x.2 (subst (λ z. IsTold nodes table (tree_now commits) operation work shut last z m) x.0 fine))
+      (posted_more posts to p m e other q n h))
 
   -- the coordinator has other fetches pending
   pub operation_fetched : (own' : List Asking) → IsQuiet work own' → Operation nodes table shut queued last due operation work starts own' posts commits seq call phase

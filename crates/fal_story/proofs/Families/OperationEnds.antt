@@ -1,5 +1,5 @@
 -- The operation is decided, or ends without a commit: what was told stays so.
-use Rattle.std.proofs.Common.{◌≡◌, ◌≢◌, ◌⊎◌, inl, inr, ⊎_elim, ℕ, ◌+◌, true, false, List, [], ◌∷◌, ◌++◌, Option, refl, sym, ap, ◌∙◌, subst}
+use Rattle.std.proofs.Common.{◌≡◌, ◌≢◌, inl, inr, ⊎_elim, ℕ, true, false, List, [], ◌∷◌, ◌++◌, Option, refl, sym, ap, ◌∙◌, subst}
 use Rattle.std.specs.List.{list_any}
 use Rattle.std.specs.Prelude.{◌==◌}
 use Rattle.fal_base.specs.declared.call.CallRec.{CallRec}
@@ -9,6 +9,7 @@ use Rattle.fal_base.specs.declared.reply.Reply.{Reply}
 use Rattle.fal_base.specs.declared.row.Update.{Update}
 use Rattle.fal_base.specs.Commits.{Commit}
 use Rattle.fal_base.specs.Tree.{Tree}
+use Rattle.fal_base.specs.Updates.{keys_of}
 use Rattle.fal_dentry.specs.Walk.{is_among}
 use Rattle.fal_place.specs.Placement.{Placement}
 use Rattle.fal_wire.specs.declared.message.Message.{Message}
@@ -17,7 +18,7 @@ use Rattle.fal_locks.specs.declared.holder.Shut.{Shut}
 use Rattle.fal_story.proofs.Families.Operation.{HasShut, IsOf, IsQuiet, IsTold, LocksKeys, Operation, Stands, ToldCommit, ToldDone, among_below, numbers_below}
 use Rattle.fal_story.proofs.Lists.Grown.{from_put, put_all}
 use Rattle.fal_story.proofs.Phase.{Phase, Runs, Tells, Replies, IsPast}
-use Rattle.fal_story.proofs.Trees.Laid.{owned, keys_of}
+use Rattle.fal_story.proofs.Trees.Laid.{owned}
 use Rattle.fal_story.proofs.Trees.Standing.{tree_now}
 use Rattle.fal_story.proofs.View.{Post, Asking, Work, Rests, Walks, Locks, Counts, Ends}
 use Rattle.fal_story.specs.World.{put}
@@ -105,14 +106,16 @@ told_decided nodes table tree after operation work shut last to l keys updates m
 
 module _ {nodes : ℕ} {table : Placement} {shut : ℕ → Option Shut} {queued : ℕ → Option Message} {last : ℕ → ℕ} {due : ℕ → List Update} {operation : ℕ} {work : Work} {starts : List (ℕ × ℕ)}
     {own : List Asking} {posts : List Post} {commits : List Commit} {seq : ℕ → ℕ} {call : ℕ → CallRec} {phase : ℕ → Phase} (g : Operation nodes table shut queued last due operation work starts own posts commits seq call phase) where
-  pub operation_decided : (l : ℕ) (keys : List Key) (updates : List Update) (c : Commit) (k : ℕ) (reply : Reply) → IsReady work l keys → ((key : Key) → is_among key (keys_of updates) ≡ true → is_among key keys ≡ true)
-      → Operation nodes table shut queued last (λ n. owned table n updates) operation (Ends keys updates (numbers_below nodes)) starts own posts (commits ++ c ∷ []) seq call (put phase l (Tells (Replies k reply)))
-  operation_decided l keys updates c k reply is within =
+  -- its call is answered, and the keys are to be opened again
+  operation_answered : (after : List Commit) (due' : ℕ → List Update) (l : ℕ) (keys : List Key) (updates : List Update) (k : ℕ) (reply : Reply) → IsReady work l keys → ((n : ℕ) → due n ≡ [] → due' n ≡ owned table n updates)
+      → ((key : Key) → is_among key (keys_of updates) ≡ true → is_among key keys ≡ true)
+      → Operation nodes table shut queued last due' operation (Ends keys updates (numbers_below nodes)) starts own posts after seq call (put phase l (Tells (Replies k reply)))
+  operation_answered after due' l keys updates k reply is owes within =
       let alone = λ (a : ℕ) (ne : a ≢ l) (runs : phase a ≡ Runs). ne (same_lane work a l (g.runs a runs) (ready_of work l keys is)) in
       record {
-        stands = λ n below. inl (refl, among_below nodes n below, (ready_shut table operation n l work keys (shut n) (queued n) (last n) (due n) is (g.stands n below)).1);
+        stands = λ n below. let x = ready_shut table operation n l work keys (shut n) (queued n) (last n) (due n) is (g.stands n below) in inl (owes n x.0, among_below nodes n below, x.1);
         beyond = g.beyond;
-        told = λ e p to m posted. told_decided nodes table (tree_now commits) (tree_now (commits ++ c ∷ [])) operation work shut last to l keys updates (numbers_below nodes) is m (g.told e p to m posted);
+        told = λ e p to m posted. told_decided nodes table (tree_now commits) (tree_now after) operation work shut last to l keys updates (numbers_below nodes) is m (g.told e p to m posted);
         walks = tt;
         heard = tt;
         within = within;
@@ -131,29 +134,11 @@ module _ {nodes : ℕ} {table : Placement} {shut : ℕ → Option Shut} {queued 
         };
       }
 
-  -- the operation changes nothing: the keys are opened again
+  pub operation_decided : (l : ℕ) (keys : List Key) (updates : List Update) (c : Commit) (k : ℕ) (reply : Reply) → IsReady work l keys → ((key : Key) → is_among key (keys_of updates) ≡ true → is_among key keys ≡ true)
+      → Operation nodes table shut queued last (λ n. owned table n updates) operation (Ends keys updates (numbers_below nodes)) starts own posts (commits ++ c ∷ []) seq call (put phase l (Tells (Replies k reply)))
+  operation_decided l keys updates c k reply is within = operation_answered (commits ++ c ∷ []) (λ n. owned table n updates) l keys updates k reply is (λ n none. refl) within
+
+  -- the operation changes nothing
   pub operation_ended : (l : ℕ) (keys : List Key) (k : ℕ) (reply : Reply) → IsReady work l keys
       → Operation nodes table shut queued last due operation (Ends keys [] (numbers_below nodes)) starts own posts commits seq call (put phase l (Tells (Replies k reply)))
-  operation_ended l keys k reply is =
-      let alone = λ (a : ℕ) (ne : a ≢ l) (runs : phase a ≡ Runs). ne (same_lane work a l (g.runs a runs) (ready_of work l keys is)) in
-      record {
-        stands = λ n below. let x = ready_shut table operation n l work keys (shut n) (queued n) (last n) (due n) is (g.stands n below) in inl (x.0, among_below nodes n below, x.1);
-        beyond = g.beyond;
-        told = λ e p to m posted. told_decided nodes table (tree_now commits) (tree_now commits) operation work shut last to l keys [] (numbers_below nodes) is m (g.told e p to m posted);
-        walks = tt;
-        heard = tt;
-        within = λ key none. absurd (cc);
-        dirs = tt;
-        counts = tt;
-        runs = λ a runs. ⊎_elim (λ y. absurd (cc)) (λ y. absurd (alone a y.0 y.1)) (from_put phase l (Tells (Replies k reply)) a Runs runs);
-        running = λ a none. absurd none;
-        unmaking = λ a runs. ⊎_elim (λ y. absurd (cc)) (λ y. absurd (alone a y.0 y.1)) (from_put phase l (Tells (Replies k reply)) a Runs runs);
-        quiet = ready_quiet work l keys own is g.quiet;
-        starts = record {
-          count = g.starts.count;
-          apart = g.starts.apart;
-          sent = g.starts.sent;
-          last = λ i a at. inr (put_all (λ a q. IsPast (phase a) → IsPast q) phase l (Tells (Replies k reply)) (λ _. tt) (λ a _ past. past) a
-              (⊎_elim (λ walks. absurd (not_walking work l a keys is walks)) (λ past. past) (g.starts.last i a at)));
-        };
-      }
+  operation_ended l keys k reply is = operation_answered commits due l keys [] k reply is (λ n none. none) (λ key none. absurd (cc))

@@ -1,5 +1,5 @@
 -- A node hears of the operation, and lays what is due when it is decided.
-use Rattle.std.proofs.Common.{◌≡◌, ◌⊎◌, inl, inr, ⊎_elim, ℕ, ◌<◌, ◌≤◌, List, [], Option, Some, None, refl, sym, ap, arith}
+use Rattle.std.proofs.Common.{◌≡◌, inl, inr, ⊎_elim, ℕ, ◌<◌, ◌≤◌, List, [], Option, Some, None, refl, sym, ap, arith}
 use Rattle.fal_base.specs.declared.call.CallRec.{CallRec}
 use Rattle.fal_base.specs.declared.event.Actor.{Actor}
 use Rattle.fal_base.specs.declared.key.Key.{Key}
@@ -10,7 +10,7 @@ use Rattle.fal_place.specs.Placement.{Placement}
 use Rattle.fal_wire.specs.declared.message.Message.{Message}
 use Rattle.fal_wire.specs.declared.message.Message.TheVariants as message
 use Rattle.fal_locks.specs.declared.holder.Shut.{Shut}
-use Rattle.fal_story.proofs.Families.Operation.{IsTold, LocksKeys, Operation, Stands, ToldDone, ToldLocked, shut_by}
+use Rattle.fal_story.proofs.Families.Operation.{IsTold, LocksKeys, Operation, operation_placed, Stands, ToldDone, ToldLocked, shut_by}
 use Rattle.fal_story.proofs.Lists.Grown.{put_all, put_both}
 use Rattle.fal_story.proofs.Phase.{Phase}
 use Rattle.fal_story.proofs.Trees.Standing.{tree_now}
@@ -90,39 +90,19 @@ module _ {nodes : ℕ} {table : Placement} {shut : ℕ → Option Shut} {queued 
   -- a Lock comes to a node: it is its next item
   pub operation_queued : (n : ℕ) (keys : List Key) → n < nodes → last n < operation → LocksKeys work keys
       → Operation nodes table shut (put queued n (Some (message.Lock operation keys))) (put last n operation) due operation work starts own posts commits seq call phase
-  operation_queued n keys below newer locks = record {
-    stands = put_both (λ m q x. m < nodes → Stands table operation work m (shut m) q x (due m)) queued last n (Some (message.Lock operation keys)) operation
-        (λ _. stands_queued table operation n work keys (shut n) (queued n) (last n) (due n) newer locks (g.stands n below)) (λ m _. g.stands m);
-    beyond = g.beyond;
-    told = λ e p to m posted. told_later nodes table (tree_now commits) operation work shut last n operation newer to m (g.told e p to m posted);
-    walks = g.walks;
-    heard = g.heard;
-    within = g.within;
-    dirs = g.dirs;
-    counts = g.counts;
-    runs = g.runs;
-    running = g.running;
-    unmaking = g.unmaking;
-    quiet = g.quiet;
-    starts = g.starts;
-  }
+  operation_queued n keys below newer locks =
+      operation_placed g
+      (put_both (λ m q x. m < nodes → Stands table operation work m (shut m) q x (due m)) queued last n (Some (message.Lock operation keys)) operation
+      (λ _. stands_queued table operation n work keys (shut n) (queued n) (last n) (due n) newer locks (g.stands n below)) (λ m _. g.stands m))
+      g.beyond
+      (λ e p to m posted. told_later nodes table (tree_now commits) operation work shut last n operation newer to m (g.told e p to m posted))
 
   -- a node lays what is due, and is open again
   pub operation_reopened : (n : ℕ) (keys : List Key) (updates : List Update) (missing : List ℕ) → work ≡ Ends keys updates missing → shut n ≡ shut_by operation keys
       → Operation nodes table (put shut n None) queued last (put due n []) operation work starts own posts commits seq call phase
-  operation_reopened n keys updates missing ends is = record {
-    stands = put_both (λ m s us. m < nodes → Stands table operation work m s (queued m) (last m) us) shut due n None []
-        (λ below. stands_open table operation n work keys updates missing (shut n) (queued n) (last n) (due n) ends is (g.stands n below)) (λ m _. g.stands m);
-    beyond = put_all (λ m s. nodes ≤ m → s ≡ None) shut n None (λ _. refl) (λ m _. g.beyond m);
-    told = λ e p to m posted. told_open nodes table (tree_now commits) operation work shut last n keys updates missing ends to m (g.told e p to m posted);
-    walks = g.walks;
-    heard = g.heard;
-    within = g.within;
-    dirs = g.dirs;
-    counts = g.counts;
-    runs = g.runs;
-    running = g.running;
-    unmaking = g.unmaking;
-    quiet = g.quiet;
-    starts = g.starts;
-  }
+  operation_reopened n keys updates missing ends is =
+      operation_placed g
+      (put_both (λ m s us. m < nodes → Stands table operation work m s (queued m) (last m) us) shut due n None []
+      (λ below. stands_open table operation n work keys updates missing (shut n) (queued n) (last n) (due n) ends is (g.stands n below)) (λ m _. g.stands m))
+      (put_all (λ m s. nodes ≤ m → s ≡ None) shut n None (λ _. refl) (λ m _. g.beyond m))
+      (λ e p to m posted. told_open nodes table (tree_now commits) operation work shut last n keys updates missing ends to m (g.told e p to m posted))

@@ -1,5 +1,5 @@
 -- A row changes under a key that nobody has shut: the operation is where it was.
-use Rattle.std.proofs.Common.{◌≡◌, ◌≢◌, ◌⊎◌, inl, inr, ⊎_elim, ℕ, ◌+◌, ◌<◌, true, ◌||◌, List, [], ◌∷◌, ◌++◌, Option, Some, IsSome, IsSomeAnd, refl, sym, ap, ◌∙◌, subst}
+use Rattle.std.proofs.Common.{◌≡◌, ◌≢◌, inl, inr, ⊎_elim, ℕ, ◌<◌, true, ◌||◌, List, [], ◌∷◌, ◌++◌, Option, Some, IsSome, IsSomeAnd, refl, sym, ap, ◌∙◌, subst}
 use Rattle.std.specs.List.{All}
 use Rattle.std.proofs.lemmas.List.Elements.{All-weaker}
 use Rattle.std.specs.Prelude.{if◌then◌else◌}
@@ -13,6 +13,7 @@ use Rattle.fal_base.specs.declared.row.Update.{Update}
 use Rattle.fal_base.specs.Commits.{Commit}
 use Rattle.fal_base.proofs.Maps.{same_key_is}
 use Rattle.fal_base.specs.Tree.{Tree, row_at, same_key}
+use Rattle.fal_base.proofs.Entries.{SomeUnder}
 use Rattle.fal_dentry.specs.TreeWalk.{way}
 use Rattle.fal_dentry.specs.Walk.{is_among}
 use Rattle.fal_place.specs.Placement.{Placement, owner}
@@ -23,7 +24,7 @@ use Rattle.fal_story.proofs.Families.Operation.{AreCounted, AreHeard, AreKept, H
 use Rattle.fal_story.proofs.Lists.Grown.{from_put, put_all, tells, or_second}
 use Rattle.fal_story.proofs.Phase.{Phase, Runs, Tells, Replies, IsPast}
 use Rattle.fal_story.proofs.Trees.Changed.{IsChanged, ready_kept}
-use Rattle.fal_story.proofs.Trees.Standing.{tree_now, NoneUnder, SomeUnder}
+use Rattle.fal_story.proofs.Trees.Standing.{tree_now, NoneUnder}
 use Rattle.fal_story.proofs.View.{Post, Asking, Kept, Work, Rests, Walks, Locks, Counts, Ends}
 use Rattle.fal_story.specs.World.{put}
 

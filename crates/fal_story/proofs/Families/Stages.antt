@@ -17,7 +17,7 @@ use Rattle.fal_place.specs.Placement.{Placement, owner}
 use Rattle.fal_wire.specs.declared.message.Message.{Message}
 use Rattle.fal_wire.specs.declared.message.Message.TheVariants as message
 use Rattle.fal_locks.specs.declared.holder.Shut.{Shut}
-use Rattle.fal_story.proofs.Families.Operation.{Operation, Starts, Stands, IsTold, IsMissing, IsKept, row_told, rows_of, numbers_below, among_below, shut_by, IsCounted}
+use Rattle.fal_story.proofs.Families.Operation.{Operation, operation_placed, Starts, Stands, IsTold, IsMissing, IsKept, row_told, rows_of, numbers_below, among_below, shut_by, IsCounted}
 use Rattle.fal_story.proofs.Families.Told.{told_counted, told_counting, told_done, told_ended, told_given_up, told_heard, told_locking, told_shut, told_started}
 use Rattle.fal_story.proofs.Lists.Grown.{from_put, put_all, put_both, put_same, tells, unequal, slice_get_snoc}
 use Rattle.fal_story.proofs.Phase.{Phase, Runs, Tells, Replies, IsPast}
@@ -212,23 +212,12 @@ module _ {nodes : ℕ} {table : Placement} {shut : ℕ → Option Shut} {queued 
       let waits : (shut n ≡ None) × (last n ≡ operation) = ⊎_elim
       (λ x. ⊎_elim (λ away. let none = away.1 in absurd (cc)) (λ queued. (queued.0, queued.2)) x.1)
       (λ has. let none = has.1 in absurd (cc)) here.1 in
-      record {
-        stands = put_both (λ m s q. m < nodes → Stands table operation work m s q (last m) (due m)) shut queued n (shut_by operation keys) None
-            (λ _. subst (λ w. Stands table operation w n (shut_by operation keys) None (last n) (due n)) (sym is) (here.0, inr (refl, refl, waits.1))) (λ m _. g.stands m);
-        beyond = put_all (λ m s. nodes ≤ m → s ≡ None) shut n (shut_by operation keys) (λ past. absurd (omega arith)) (λ m _. g.beyond m);
-        told = λ e p to m posted. subst (λ w. IsTold nodes table (tree_now commits) operation w (put shut n (shut_by operation keys)) last to m) (sym is)
-            (told_shut nodes table (tree_now commits) operation shut last l keys walks missing rows n waits.0 to m (h.told e p to m posted));
-        walks = g.walks;
-        heard = g.heard;
-        within = g.within;
-        dirs = g.dirs;
-        counts = g.counts;
-        runs = g.runs;
-        running = g.running;
-        unmaking = g.unmaking;
-        quiet = g.quiet;
-        starts = g.starts;
-      }
+      operation_placed g
+      (put_both (λ m s q. m < nodes → Stands table operation work m s q (last m) (due m)) shut queued n (shut_by operation keys) None
+      (λ _. subst (λ w. Stands table operation w n (shut_by operation keys) None (last n) (due n)) (sym is) (here.0, inr (refl, refl, waits.1))) (λ m _. g.stands m))
+      (put_all (λ m s. nodes ≤ m → s ≡ None) shut n (shut_by operation keys) (λ past. absurd (omega arith)) (λ m _. g.beyond m))
+      (λ e p to m posted. subst (λ w. IsTold nodes table (tree_now commits) operation w (put shut n (shut_by operation keys)) last to m) (sym is)
+      (told_shut nodes table (tree_now commits) operation shut last l keys walks missing rows n waits.0 to m (h.told e p to m posted)))
 
   -- the coordinator hears that a node has shut the keys, and its rows
   pub operation_heard : (n l : ℕ) (keys : List Key) (walks : List Kept) (missing : List ℕ) (rows given : List Update) → work ≡ Locks l keys walks missing rows → shut n ≡ shut_by operation keys → given ≡ rows_of table (tree_now commits) n keys

@@ -1,9 +1,8 @@
 -- What was told of the operation is so at its next stage.
-use Rattle.std.proofs.Common.{◌⊎◌, ◌≡◌, inl, ⊎_elim, ℕ, ◌+◌, ◌<◌, List, [], Option, None, refl, arith}
+use Rattle.std.proofs.Common.{◌≡◌, inl, ⊎_elim, ℕ, ◌+◌, ◌<◌, List, Option, None, refl, arith}
 use Rattle.fal_base.specs.declared.event.Actor.{Actor}
 use Rattle.fal_base.specs.declared.key.Key.{Key}
 use Rattle.fal_base.specs.declared.row.Update.{Update}
-use Rattle.fal_base.specs.Commits.{Commit}
 use Rattle.fal_base.specs.Tree.{Tree}
 use Rattle.fal_place.specs.Placement.{Placement}
 use Rattle.fal_wire.specs.declared.message.Message.{Message}

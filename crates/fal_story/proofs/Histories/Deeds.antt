@@ -9,7 +9,7 @@ use Rattle.fal_base.specs.declared.event.Envelope.{Envelope}
 use Rattle.fal_base.specs.declared.event.Event.{Event}
 use Rattle.fal_base.specs.declared.event.Event.TheVariants as event
 use Rattle.fal_client.specs.State.{Work as ClientWork}
-use Rattle.fal_coord.specs.Step.{Work as CoordWork}
+use Rattle.fal_coord.specs.State.{Work as CoordWork}
 use Rattle.fal_node.specs.Letters.{Work}
 use Rattle.fal_story.proofs.Lists.Grown.{put_same, put_other, tells}
 use Rattle.fal_story.specs.Actors.{actor_of, is_actor}

@@ -10,7 +10,7 @@ use Rattle.fal_base.specs.declared.event.Event.{Event}
 use Rattle.fal_base.specs.declared.event.Output.{Output}
 use Rattle.fal_story.proofs.Histories.Deeds.{deed_does}
 use Rattle.fal_story.specs.Actors.{number_of}
-use Rattle.fal_story.specs.Arriving.{arrived_next, arrived, AreSentIn, AreInOrder}
+use Rattle.fal_story.specs.Arriving.{arrived_next, arrived, AreSentIn, AreSentInOrder}
 use Rattle.fal_story.specs.Run.{Deed, deed, done, run_from, run, IsLegal, envelopes_at}
 use Rattle.fal_story.specs.World.{World, posted, envelopes_of, opening_world}
 
@@ -59,7 +59,7 @@ skip next number from first last (suc i) (y ∷ ys) x a at before =
     passes next number from y ys (omega arith) ∙ (skip (next + 1) number from y.sent_at last i ys x a.1 at before ∙ ap (λ n. arrived_next n number from (drop (suc i) ys)) same)
 
 -- an envelope that was sent before event `from` does not arrive, nor do those before it
-pub arrived_past : (from i : ℕ) (sent : List Envelope) (x : Envelope) → AreInOrder sent → i < length sent → x ≡ get_or sent i x → x.sent_at < from
+pub arrived_past : (from i : ℕ) (sent : List Envelope) (x : Envelope) → AreSentInOrder sent → i < length sent → x ≡ get_or sent i x → x.sent_at < from
     → (number : ℕ) → arrived number from sent ≡ arrived_next (i + 1) number from (drop (i + 1) sent)
 arrived_past from i sent x order below is before number =
     let at : slice_get sent i ≡ Some x = slice_get_read sent (length sent) i x refl below is in
@@ -94,11 +94,11 @@ on_in_time config (e ∷ es) w u time at =
     ] refl at
 
 -- the envelopes of a legal run stand in the order of the events that sent them
-pub legal_in_order : (config : Config) (es : List Event) → IsLegal config es → AreInOrder (envelopes_at (run config es))
+pub legal_in_order : (config : Config) (es : List Event) → IsLegal config es → AreSentInOrder (envelopes_at (run config es))
 unfolding run
 legal_in_order config es legal =
     let o = run_from config (Some (opening_world config)) es in
-    elim o as (λ p. o ≡ p → IsSome p → AreInOrder (envelopes_at p)) [
+    elim o as (λ p. o ≡ p → IsSome p → AreSentInOrder (envelopes_at p)) [
       | None ↦ λ t y. absurd (cc)
       | Some w ↦ λ t y. (w.events, on_in_time config es (opening_world config) w (omega arith) t)
     ] refl legal.enabled

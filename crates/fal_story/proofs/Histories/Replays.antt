@@ -1,5 +1,5 @@
 -- Each actor of a run is the replay of its own events, and what they made is what the world has.
-use Rattle.std.proofs.Common.{◌≡◌, ⊎_elim, inl, inr, ◌⊎◌, ℕ, ◌+◌, true, false, cond, List, [], ◌∷◌, ◌++◌, length, filter, Option, Some, None, refl, sym, ap, ◌∙◌, subst, append_assoc, append-nil}
+use Rattle.std.proofs.Common.{◌≡◌, ◌+◌, true, false, cond, List, [], ◌∷◌, ◌++◌, length, Option, Some, None, refl, sym, ap, ◌∙◌, subst, append_assoc, append-nil}
 use Rattle.std.specs.Prelude.{IsSome}
 use Rattle.std.specs.Option.{option_map}
 use Rattle.std.proofs.lemmas.List.{length-append}
@@ -15,7 +15,7 @@ use Rattle.fal_story.specs.Actors.{actor_of, is_actor, own_events}
 use Rattle.fal_story.specs.Lasting.{step_longer, replay_longer, sent_snoc, same_actor}
 use Rattle.fal_story.specs.Machines.{Machine, Made, machine_step, envelope_named}
 use Rattle.fal_story.specs.Pushing.{Sent, sent_after, sent_by, outcome}
-use Rattle.fal_story.specs.Replay.{try_step, machine_after, replay_from, opened, replay, IsReplayed}
+use Rattle.fal_story.specs.Replay.{try_step, machine_after, replay_from, opening_machine, replay, IsReplayed}
 use Rattle.fal_story.specs.Run.{deed_by, deed, done, run_from, run, IsLegal, envelopes_at, machine_in, with_machine}
 use Rattle.fal_story.specs.World.{World, posted, envelopes_of, entries_of, opening_world}
 
@@ -56,8 +56,8 @@ world_after config w e made = posted config (world_with w e made) (actor_of e) m
 
 module _ (config : Config) (es : List Event) (w : World) (e : Event) (made : Made) (more : List Envelope) (agreed : Agrees config es w) (is : made_in config w e ≡ Some made) where
   -- the actor that made the event
-  own_then : (a : Actor) → actor_of e ≡ a → replay_from config (w.envelopes ++ more) (Some (opened config a)) (own_events a es) ≡ Some (machine_in w a)
-      → machine_after (try_step config (w.envelopes ++ more) (replay_from config (w.envelopes ++ more) (Some (opened config a)) (own_events a es)) e) ≡ Some (machine_in (world_with w e made) a)
+  own_then : (a : Actor) → actor_of e ≡ a → replay_from config (w.envelopes ++ more) (Some (opening_machine config a)) (own_events a es) ≡ Some (machine_in w a)
+      → machine_after (try_step config (w.envelopes ++ more) (replay_from config (w.envelopes ++ more) (Some (opening_machine config a)) (own_events a es)) e) ≡ Some (machine_in (world_with w e made) a)
   own_then a same before =
       let all : List Envelope = w.envelopes ++ more in
       let stepped : machine_step config (machine_in w (actor_of e)) e (envelope_named all e) ≡ Some made
@@ -71,7 +71,7 @@ module _ (config : Config) (es : List Event) (w : World) (e : Event) (made : Mad
   unfolding replay
   machines_then a =
       let all : List Envelope = w.envelopes ++ more in
-      let first : Option Machine = Some (opened config a) in
+      let first : Option Machine = Some (opening_machine config a) in
       let before : replay_from config all first (own_events a es) ≡ Some (machine_in w a) = replay_longer config w.envelopes more first (own_events a es) (machine_in w a) (agreed.machines a) in
       ap (λ z. replay_from config all first z) (own_snoc a es e)
       ∙ elim (is_actor a (actor_of e)) as (λ b. is_actor a (actor_of e) ≡ b → replay_from config all first (own_events a es ++ cond b (e ∷ []) []) ≡ Some (machine_in (world_with w e made) a)) [

@@ -1,5 +1,5 @@
--- A node goes through its free waiting calls: what its list and its fetches are after that, and what the new batch is.
-use Rattle.std.proofs.Common.{◌≡◌, ◌≢◌, inl, inr, ⊎_elim, ℕ, ◌+◌, ◌<◌, ◌≤◌, ◌==◌, Bool, true, false, not, ◌||◌, cond, List, [], ◌∷◌, ◌++◌, length, map, filter, Some, None, is_none, refl, sym, ap, subst, ◌∙◌, eq-eqb, arith}
+-- A node goes through its free waiting calls: what its list and its fetches are after that, what the new batch is, and which calls leave.
+use Rattle.std.proofs.Common.{◌≡◌, ◌≢◌, ◌⊎◌, inl, inr, ⊎_elim, ℕ, ◌+◌, ◌<◌, ◌≤◌, ◌==◌, Bool, true, false, not, ◌||◌, cond, List, [], ◌∷◌, ◌++◌, length, map, filter, filter_map, Option, Some, None, is_none, refl, sym, ap, subst, ◌∙◌, eq-eqb, arith}
 use Rattle.std.specs.List.{list_any}
 use Rattle.fal_base.specs.declared.call.CallRec.{CallRec}
 use Rattle.fal_base.specs.declared.key.Key.{Key}
@@ -7,9 +7,8 @@ use Rattle.fal_base.specs.Tree.{same_key}
 use Rattle.fal_base.proofs.Maps.{same_key_is}
 use Rattle.fal_batch.specs.declared.parts.Away.{Away}
 use Rattle.fal_batch.specs.declared.parts.Planned.{Planned}
-use Rattle.fal_batch.specs.declared.parts.Sending.TheVariants as sending
 use Rattle.fal_batch.specs.declared.parts.Wanted.{Wanted}
-use Rattle.fal_batch.specs.Fate.{Setting, Waits, Joins, fate}
+use Rattle.fal_batch.specs.Fate.{Setting, Skips, Leaves, Waits, Joins, fate}
 use Rattle.fal_batch.specs.Keys.{are_distinct}
 use Rattle.fal_batch.specs.Plan.{Planning, no_plan, plan_of, free_calls, waits_for, waiters_of, tickets_differ}
 use Rattle.fal_batch.proofs.FreeCalls.{free_of, free_calls_are}
@@ -19,19 +18,20 @@ use Rattle.fal_batch.proofs.Truth.{both, both_first, both_second, neither_first,
 use Rattle.fal_dentry.specs.Walk.{is_among}
 use Rattle.fal_node.specs.declared.batch.BatchCall.{BatchCall}
 use Rattle.fal_node.specs.Deliver.{without_calls}
-use Rattle.fal_node.specs.Gather.{setting_at, plan_at, ask_letter, gather_letters, with_fetches, leaving, batch_call, batch_calls}
+use Rattle.fal_node.specs.Gather.{setting_at, plan_at, with_fetches, leaving, batch_call, batch_calls}
 use Rattle.fal_node.specs.State.{NodeState}
 use Rattle.fal_wait.specs.declared.pending_fetch.PendingFetch.{PendingFetch}
 use Rattle.fal_wait.specs.declared.waiting_call.WaitingCall.{WaitingCall}
 use Rattle.fal_wait.specs.Lists.{has_number}
-use Rattle.fal_wait.specs.Waiting.{WaitList, call_of}
+use Rattle.fal_wait.specs.Waiting.{WaitList, call_with_ticket}
 use Rattle.fal_story.proofs.Events.Shows.{IsTidy, lane_of, planned_lane}
 use Rattle.fal_story.proofs.Lists.Each.{Each, Apart, each_weaker, each_both}
-use Rattle.fal_story.proofs.Lists.GatherPlan.{Stays, sends_of, IsGoing, going_calls, IsJoining, Joining, joining_calls, apart_calls}
-use Rattle.fal_story.proofs.Lists.Grown.{tells, unequal}
-use Rattle.fal_story.proofs.Lists.Members.{IsIn, each_in, each_by, each_all, each_map, each_filter, apart_map, apart_as, apart_filter, apart_same, filter_filter}
-use Rattle.fal_story.proofs.Lists.OpenedFetches.{is_waiting, bound_all, pending_of, ticket_bound_all, call_bound_all, none_free, IsBound, bound_cases, IsWanting, keys_of, with_fetches_is, tidy_opens}
-use Rattle.fal_story.proofs.Lists.WaitLists.{tickets_of, rising_apart, call_found, withouts_are, tidy_withouts}
+use Rattle.fal_story.proofs.Lists.GatherPlan.{Stays, asked_of, away_of, IsGoing, going_calls, IsJoining, Joining, joining_calls, apart_calls, IsLeaving, Leaving, leaving_calls, apart_away, none_away}
+use Rattle.fal_story.proofs.Lists.Grown.{or_second, tells, unequal}
+use Rattle.fal_story.proofs.Lists.MadeLists.{made_of, made, each_made, apart_made, in_made}
+use Rattle.fal_story.proofs.Lists.Members.{IsIn, in_back, in_front, in_join, in_map, map_in, in_filter, each_in, each_by, each_all, each_map, each_filter, apart_map, apart_as, apart_filter, apart_same, filter_filter}
+use Rattle.fal_story.proofs.Lists.OpenedFetches.{IsAsked, each_asked, is_waiting, bound_all, pending_of, ticket_bound_all, call_bound_all, none_free, IsBound, bound_cases, IsWanting, keys_of, with_fetches_is, tidy_opens}
+use Rattle.fal_story.proofs.Lists.WaitLists.{tickets_of, rising_apart, withouts_are, tidy_withouts}
 
 -- ---- the plan of a tidy list
 
@@ -39,7 +39,8 @@ no_other : (w : WaitingCall) (ws : List WaitingCall) → Each (λ v. v.ticket �
 no_other w [] h = refl
 no_other w (v ∷ ws) h = ap (λ b. b || list_any (λ x. x.ticket == w.ticket) ws) (unequal v.ticket w.ticket h.0) ∙ no_other w ws h.1
 
-tickets_apart : (ws : List WaitingCall) → Apart (λ w. w.ticket) ws → tickets_differ ws ≡ true
+-- no two calls of a list have one ticket
+pub tickets_apart : (ws : List WaitingCall) → Apart (λ w. w.ticket) ws → tickets_differ ws ≡ true
 tickets_apart [] h = refl
 tickets_apart (w ∷ ws) h = both (not (list_any (λ v. v.ticket == w.ticket) ws)) (tickets_differ ws) (ap not (no_other w ws h.0)) (tickets_apart ws h.1)
 
@@ -56,54 +57,52 @@ own_waiters (w ∷ ws) h =
       each_both _ _ _ ws (λ v is apart. ap (λ b. cond b w.waiters (waiters_of ws v.key)) apart ∙ is) rest (others_differ w.key ws alone),
     )
 
--- ---- tickets of planned calls
+-- ---- tickets
 
-abbrev planned_tickets : List Planned → List ℕ
-planned_tickets xs = map (λ x. x.ticket) xs
-
-planned_with : (xs : List Planned) (ticket : ℕ) → has_number (planned_tickets xs) ticket ≡ true → (x : Planned) × (IsIn x xs × (x.ticket ≡ ticket))
-planned_with [] ticket h = absurd (cc)
-planned_with (x ∷ xs) ticket h =
+has_in : (ts : List ℕ) (t : ℕ) → has_number ts t ≡ true → IsIn t ts
+has_in [] t h = absurd (cc)
+has_in (u ∷ us) t h =
     ⊎_elim
-    (λ e. (x, (inl refl, e.1)))
-    (λ e. let rest = planned_with xs ticket (sym (ap (λ b. b || has_number (planned_tickets xs) ticket) e.0) ∙ h) in (rest.0, (inr rest.1.0, rest.1.1)))
-    (tells x.ticket ticket)
+    (λ e. inl e.1)
+    (λ e. inr (has_in us t (sym (ap (λ b. b || has_number us t) e.0) ∙ h)))
+    (tells u t)
 
-or_true : (a b : Bool) → b ≡ true → (a || b) ≡ true
-or_true true b h = refl
-or_true false b h = h
-
-planned_has : (xs : List Planned) (x : Planned) → IsIn x xs → has_number (planned_tickets xs) x.ticket ≡ true
-planned_has [] x m = absurd m
-planned_has (y ∷ ys) x m =
+in_has : (ts : List ℕ) (t : ℕ) → IsIn t ts → has_number ts t ≡ true
+in_has [] t m = absurd m
+in_has (u ∷ us) t m =
     ⊎_elim
-    (λ e. ap (λ b. b || has_number (planned_tickets ys) x.ticket) (eq-eqb y.ticket x.ticket (ap (λ (z : Planned). z.ticket) e)))
-    (λ e. or_true (y.ticket == x.ticket) (has_number (planned_tickets ys) x.ticket) (planned_has ys x e))
+    (λ e. ap (λ b. b || has_number us t) (eq-eqb u t e))
+    (λ r. or_second (u == t) (has_number us t) (in_has us t r))
     m
 
--- ---- the batch
+-- ---- the batch, and the calls that leave
 
 abbrev call_with : CallRec → Planned → BatchCall
 call_with call x = record { call = call; denied = x.denied; parent = x.parent; last = x.last }
 
--- what holds of each planned call with its record holds of each call of the batch
-each_batch : (s : Setting) (list : WaitList) (R : Planned → Type 0) (Q : BatchCall → Type 0) (xs : List Planned) → Apart (λ w. w.ticket) list.calls
-    → ((w : WaitingCall) (x : Planned) → IsIn w list.calls → w.fetch ≡ None → IsJoining s w x → R x → Q (call_with w.call x)) → Each (Joining s list.calls) xs → Each R xs → Each Q (batch_calls list xs)
-each_batch s list R Q [] apart f j r = tt
-each_batch s list R Q (x ∷ xs) apart f j r =
-    let w = j.0.0 in
-    let found = ap (call_of list) (sym j.0.1.2.0) ∙ each_in (λ v. call_of list v.ticket ≡ Some v.call) list.calls w (call_found list apart) j.0.1.0 in
-    subst (λ o. Each Q (batch_call o x ++ batch_calls list xs)) (sym found) (f w x j.0.1.0 j.0.1.1 j.0.1.2 r.0, each_batch s list R Q xs apart f j.1 r.1)
+-- a call that leaves, to a node or to its client
+pub record Leaver : Type 0 where
+  pub ticket : ℕ
+  pub call : CallRec
+  pub to : Option ℕ
 
-apart_batch : (s : Setting) (list : WaitList) (xs : List Planned) → Apart (λ w. w.ticket) list.calls → Apart lane_of list.calls → Apart (λ x. x.ticket) xs → Each (Joining s list.calls) xs
-    → Apart planned_lane (batch_calls list xs)
-apart_batch s list [] apart lanes a j = tt
-apart_batch s list (x ∷ xs) apart lanes a j =
-    let w = j.0.0 in
-    let found = ap (call_of list) (sym j.0.1.2.0) ∙ each_in (λ v. call_of list v.ticket ≡ Some v.call) list.calls w (call_found list apart) j.0.1.0 in
-    let others = each_batch s list (λ y. y.ticket ≢ x.ticket) (λ b. planned_lane b ≢ lane_of w) xs apart
-    (λ v y m free is ne same. ne (sym is.0 ∙ ap (λ (z : WaitingCall). z.ticket) (apart_same lane_of list.calls v w lanes m j.0.1.0 same) ∙ j.0.1.2.0)) j.1 a.0 in
-    subst (λ o. Apart planned_lane (batch_call o x ++ batch_calls list xs)) (sym found) (others, apart_batch s list xs apart lanes a.1 j.1)
+abbrev pub left_lane : Leaver → ℕ
+left_lane y = y.call.id.client
+
+abbrev pub leaver_with : CallRec → Away → Leaver
+leaver_with call a = record { ticket = a.ticket; call = call; to = a.to }
+
+-- the calls that leave with their records
+abbrev pub leavers : WaitList → List Away → List Leaver
+leavers list aways = made leaver_with (λ a. a.ticket) list aways
+
+batch_is : (list : WaitList) (xs : List Planned) → batch_calls list xs ≡ made call_with (λ x. x.ticket) list xs
+batch_is list [] = refl
+batch_is list (x ∷ xs) =
+    elim (call_with_ticket list x.ticket) as (λ o. batch_call o x ++ batch_calls list xs ≡ made_of call_with o x ++ made call_with (λ y. y.ticket) list xs) [
+      | None ↦ batch_is list xs
+      | Some call ↦ ap (λ ys. call_with call x ∷ ys) (batch_is list xs)
+    ]
 
 -- ---- what comes of it
 
@@ -115,25 +114,42 @@ IsKept s list fetches w = (was : WaitingCall) × (IsIn was list.calls × IsBound
 abbrev pub IsJoined : Setting → WaitList → BatchCall → Type 0
 IsJoined s list x = (w : WaitingCall) × (IsIn w list.calls × (w.fetch ≡ None) × (x.call ≡ w.call) × ((keys : List Key) × (fate s w.call ≡ Joins x.denied x.parent x.last keys)))
 
--- from this list, with these fetches opened, this list is left and these calls join the batch
-pub record IsGathered (s : Setting) (list after : WaitList) (opened : List PendingFetch) (batch : List BatchCall) : Type 0 where
+-- the call was free, and leaves
+abbrev pub IsLeft : Setting → WaitList → Leaver → Type 0
+IsLeft s list y = (w : WaitingCall) × (IsIn w list.calls × (w.fetch ≡ None) × (y.ticket ≡ w.ticket) × (y.call ≡ w.call) × (fate s w.call ≡ Leaves y.to))
+
+-- a call of the list waits still, or joins the batch, or leaves
+abbrev pub IsMet : Setting → List PendingFetch → List WaitingCall → List BatchCall → List Leaver → WaitingCall → Type 0
+IsMet s opened after batch left w =
+    ((y : WaitingCall) × (IsIn y after × IsBound s opened w y)) ⊎ (((x : BatchCall) × (IsIn x batch × (x.call ≡ w.call))) ⊎ ((y : Leaver) × (IsIn y left × (y.ticket ≡ w.ticket) × (y.call ≡ w.call))))
+
+-- from this list, with these fetches opened, this list is left, these calls join the batch and these leave
+pub record IsGathered (s : Setting) (list after : WaitList) (opened : List PendingFetch) (batch : List BatchCall) (left : List Leaver) : Type 0 where
   pub fetches : after.fetches ≡ list.fetches ++ opened
   pub last : after.last ≡ list.last
   pub below : list.opened ≤ after.opened
   pub new : Each (λ f. (list.opened ≤ f.number) × (f.number < after.opened)) opened
+  pub asked : Each (IsAsked s list.calls) opened
   pub tidy : IsTidy after
   pub kept : Each (IsKept s list opened) after.calls
   pub joined : Each (IsJoined s list) batch
+  pub gone : Each (IsLeft s list) left
+  -- each is in one place, by its ticket and by its lane
+  pub all : Each (IsMet s opened after.calls batch left) list.calls
+  pub ticket_apart : Each (λ w. Each (λ y. y.ticket ≢ w.ticket) left) after.calls
   pub kept_apart : Apart lane_of list.calls → Apart lane_of after.calls
   pub joined_apart : Apart lane_of list.calls → Apart planned_lane batch
+  pub gone_apart : Apart lane_of list.calls → Apart left_lane left
   pub both_apart : Apart lane_of list.calls → Each (λ w. Each (λ x. planned_lane x ≢ lane_of w) batch) after.calls
+  pub left_apart : Apart lane_of list.calls → Each (λ w. Each (λ y. left_lane y ≢ lane_of w) left) after.calls
+  pub parted : Apart lane_of list.calls → Each (λ x. Each (λ y. left_lane y ≢ planned_lane x) left) batch
 
 new_numbers : (number : ℕ) (fetches : List Wanted) → Each (λ f. (number ≤ f.number) × (f.number < number + length fetches)) (pending_of number fetches)
 new_numbers number [] = tt
 new_numbers number (wanted ∷ fetches) =
     ((omega arith, omega arith), each_weaker _ _ (pending_of (number + 1) fetches) (λ f is. (let low = is.0 in omega arith, let high = is.1 in omega arith)) (new_numbers (number + 1) fetches))
 
-module _ (s : Setting) (list : WaitList) (t : IsTidy list) (stay : Each (λ w. w.fetch ≡ None → Stays (fate s w.call)) list.calls) where
+module _ (s : Setting) (list : WaitList) (t : IsTidy list) where
   abbrev plan : Planning
   plan = plan_of s list
 
@@ -149,19 +165,23 @@ module _ (s : Setting) (list : WaitList) (t : IsTidy list) (stay : Each (λ w. w
       subst (Each (λ w. IsIn w list.calls × (w.fetch ≡ None))) (sym free_are)
       (each_filter (λ w. IsIn w list.calls × (w.fetch ≡ None)) (λ w. is_none w.fetch) list.calls (each_by _ list.calls (λ w m is. (m, (none_free true w.fetch (both (is_none w.fetch) true is refl)).0))))
 
+  free_apart : Apart (λ w. w.ticket) (free_calls list)
+  free_apart = subst (Apart (λ w. w.ticket)) (sym free_are) (apart_filter (λ (w : WaitingCall). w.ticket) (λ w. is_none w.fetch) list.calls apart)
+
   going : IsGoing plan
-  going =
-      going_calls s no_plan (free_calls list)
-      (each_weaker _ _ (free_calls list) (λ w is. each_in (λ v. v.fetch ≡ None → Stays (fate s v.call)) list.calls w stay is.0 is.1) free_in)
-      (record { away = refl; sends = refl; some = tt })
+  going = going_calls s no_plan (free_calls list) (record { asked = refl; away = refl; some = tt })
 
   joining : Each (Joining s list.calls) plan.calls
   joining = joining_calls s list.calls no_plan (free_calls list) free_in tt
 
+  pub departing : Each (Leaving s list.calls) plan.away
+  departing = leaving_calls s list.calls no_plan (free_calls list) free_in tt
+
   planned_apart : Apart (λ x. x.ticket) plan.calls
-  planned_apart =
-      apart_calls s no_plan (free_calls list) (each_all _ (free_calls list) (λ w. tt))
-      (subst (Apart (λ w. w.ticket)) (sym free_are) (apart_filter (λ (w : WaitingCall). w.ticket) (λ w. is_none w.fetch) list.calls apart)) tt
+  planned_apart = apart_calls s no_plan (free_calls list) (each_all _ (free_calls list) (λ w. tt)) free_apart tt
+
+  away_apart : Apart (λ a. a.ticket) plan.away
+  away_apart = apart_away s no_plan (free_calls list) (each_all _ (free_calls list) (λ w. tt)) free_apart tt
 
   distinct : are_distinct (keys_of plan.fetches) ≡ true
   distinct = (shared_of s list).one
@@ -185,9 +205,6 @@ module _ (s : Setting) (list : WaitList) (t : IsTidy list) (stay : Each (λ w. w
   opened_tidy : IsTidy (with_fetches list plan.fetches)
   opened_tidy = tidy_opens s list plan.fetches t distinct wanting
 
-  leaving_is : leaving plan ≡ planned_tickets plan.calls
-  leaving_is = ap (λ ws. map (λ (a : Away). a.ticket) ws ++ planned_tickets plan.calls) going.away
-
   abbrev stays : WaitingCall → Bool
   stays w = not (has_number (leaving plan) w.ticket)
 
@@ -203,13 +220,38 @@ module _ (s : Setting) (list : WaitList) (t : IsTidy list) (stay : Each (λ w. w
       withouts_are (with_fetches list plan.fetches) (leaving plan) (rising_apart (with_fetches list plan.fetches).calls (with_fetches list plan.fetches).tickets opened_tidy.tickets)
       ∙ (λ i. record (all_opened i) { calls = filter (λ w. stays w) (all_opened i).calls })
 
-  -- a call that leaves is free, and joins
-  leaver : (w : WaitingCall) → IsIn w list.calls → has_number (leaving plan) w.ticket ≡ true → (w.fetch ≡ None) × ((x : Planned) × IsJoining s w x)
+  -- a call that does not stay was free, and joins or leaves
+  leaver : (w : WaitingCall) → IsIn w list.calls → has_number (leaving plan) w.ticket ≡ true
+      → ((x : Planned) × (IsIn x plan.calls × (w.fetch ≡ None) × IsJoining s w x)) ⊎ ((a : Away) × (IsIn a plan.away × (w.fetch ≡ None) × IsLeaving s w a))
   leaver w m among =
-      let x = planned_with plan.calls w.ticket (ap (λ ts. has_number ts w.ticket) (sym leaving_is) ∙ among) in
+      ⊎_elim
+      (λ e.
+      let a = map_in (λ (a : Away). a.ticket) plan.away w.ticket e in
+      let j = each_in (Leaving s list.calls) plan.away a.0 departing a.1.0 in
+      let same : j.0 ≡ w = apart_same (λ (v : WaitingCall). v.ticket) list.calls j.0 w apart j.1.0 m (j.1.2.0 ∙ a.1.1) in
+      inr (subst (λ v. (a : Away) × (IsIn a plan.away × (v.fetch ≡ None) × IsLeaving s v a)) same (a.0, (a.1.0, j.1.1, j.1.2))))
+      (λ e.
+      let x = map_in (λ (x : Planned). x.ticket) plan.calls w.ticket e in
       let j = each_in (Joining s list.calls) plan.calls x.0 joining x.1.0 in
       let same : j.0 ≡ w = apart_same (λ (v : WaitingCall). v.ticket) list.calls j.0 w apart j.1.0 m (j.1.2.0 ∙ x.1.1) in
-      subst (λ v. (v.fetch ≡ None) × ((x : Planned) × IsJoining s v x)) same (j.1.1, (x.0, j.1.2))
+      inl (subst (λ v. (x : Planned) × (IsIn x plan.calls × (v.fetch ≡ None) × IsJoining s v x)) same (x.0, (x.1.0, j.1.1, j.1.2))))
+      (in_join (map (λ (a : Away). a.ticket) plan.away) (map (λ (x : Planned). x.ticket) plan.calls) w.ticket (has_in (leaving plan) w.ticket among))
+
+  planned_leaves : (x : Planned) → IsIn x plan.calls → has_number (leaving plan) x.ticket ≡ true
+  planned_leaves x m =
+      in_has (leaving plan) x.ticket (in_back (map (λ (a : Away). a.ticket) plan.away) (map (λ (y : Planned). y.ticket) plan.calls) x.ticket (in_map (λ (y : Planned). y.ticket) plan.calls x m))
+
+  away_leaves : (a : Away) → IsIn a plan.away → has_number (leaving plan) a.ticket ≡ true
+  away_leaves a m =
+      in_has (leaving plan) a.ticket (in_front (map (λ (b : Away). b.ticket) plan.away) (map (λ (y : Planned). y.ticket) plan.calls) a.ticket (in_map (λ (b : Away). b.ticket) plan.away a m))
+
+  -- and waits on no new fetch
+  leaver_free : (w : WaitingCall) → IsIn w list.calls → has_number (leaving plan) w.ticket ≡ true → (w.fetch ≡ None) × ((key : Key) → fate s w.call ≡ Waits key → ⊥)
+  leaver_free w m among =
+      ⊎_elim {C = (w.fetch ≡ None) × ((key : Key) → fate s w.call ≡ Waits key → ⊥)}
+      (λ x. (x.1.1, λ key is. let wrong : Waits key ≡ Joins x.0.denied x.0.parent x.0.last x.1.2.1.0 = sym is ∙ x.1.2.1.1 in absurd (cc)))
+      (λ a. (a.1.1, λ key is. let wrong : Waits key ≡ Leaves a.0.to = sym is ∙ a.1.2.1 in absurd (cc)))
+      (leaver w m among)
 
   tidy_after : IsTidy after
   tidy_after =
@@ -217,10 +259,10 @@ module _ (s : Setting) (list : WaitList) (t : IsTidy list) (stay : Each (λ w. w
       (subst (λ (l : WaitList). Each (λ w. has_number (leaving plan) w.ticket ≡ true → w.fetch ≡ None) l.calls) (sym all_opened)
       (each_map (λ (w : WaitingCall). has_number (leaving plan) w.ticket ≡ true → w.fetch ≡ None) (λ w. bound_all s list.opened plan.fetches w) list.calls
       (each_by _ list.calls (λ w m among.
-      let l = leaver w m (ap (has_number (leaving plan)) (sym (ticket_bound_all s list.opened plan.fetches w)) ∙ among) in
+      let l = leaver_free w m (ap (has_number (leaving plan)) (sym (ticket_bound_all s list.opened plan.fetches w)) ∙ among) in
       ⊎_elim
       (λ e. ap (λ (v : WaitingCall). v.fetch) e ∙ l.0)
-      (λ e. let wrong : Waits e.1.0.key ≡ Joins l.1.0.denied l.1.0.parent l.1.0.last l.1.1.1.0 = sym e.1.1.1 ∙ l.1.1.1.1 in absurd (cc))
+      (λ e. absurd (l.1 e.1.0.key e.1.1.1))
       (bound_cases s list.opened plan.fetches w)))))
 
   -- what holds of each call that stays, as it waits then
@@ -231,51 +273,122 @@ module _ (s : Setting) (list : WaitList) (t : IsTidy list) (stay : Each (λ w. w
       (each_map (λ w. stays w ≡ true → Q w) (λ w. bound_all s list.opened plan.fetches w) list.calls
       (each_by _ list.calls (λ w m is. f w m (ap (has_number (leaving plan)) (sym (ticket_bound_all s list.opened plan.fetches w)) ∙ not_true (has_number (leaving plan) (bound_all s list.opened plan.fetches w).ticket) is)))))
 
-  pub gathered_list : IsGathered s list after (pending_of list.opened plan.fetches) (batch_calls list plan.calls)
-  gathered_list = record {
+  stays_in : (w : WaitingCall) → IsIn w list.calls → has_number (leaving plan) w.ticket ≡ false → IsIn (bound_all s list.opened plan.fetches w) after.calls
+  stays_in w m is =
+      subst (λ (l : WaitList). IsIn (bound_all s list.opened plan.fetches w) l.calls) (sym after_is)
+      (in_filter (λ v. stays v) (map (λ v. bound_all s list.opened plan.fetches v) list.calls) (bound_all s list.opened plan.fetches w) (in_map (λ v. bound_all s list.opened plan.fetches v) list.calls w m)
+      (ap (λ n. not (has_number (leaving plan) n)) (ticket_bound_all s list.opened plan.fetches w) ∙ ap not is))
+
+  abbrev batch : List BatchCall
+  batch = made call_with (λ x. x.ticket) list plan.calls
+
+  abbrev left : List Leaver
+  left = leavers list plan.away
+
+  -- what holds of each planned call, and of each that leaves, with its record
+  each_joined : (Q : BatchCall → Type 0) → ((w : WaitingCall) (x : Planned) → IsIn w list.calls → w.fetch ≡ None → IsJoining s w x → has_number (leaving plan) x.ticket ≡ true → Q (call_with w.call x)) → Each Q batch
+  each_joined Q holds = each_made call_with (λ x. x.ticket) (IsJoining s) (λ w x is. is.0) list apart (λ x. has_number (leaving plan) x.ticket ≡ true) Q holds plan.calls joining (each_by _ plan.calls planned_leaves)
+
+  each_left : (Q : Leaver → Type 0) → ((w : WaitingCall) (a : Away) → IsIn w list.calls → w.fetch ≡ None → IsLeaving s w a → has_number (leaving plan) a.ticket ≡ true → Q (leaver_with w.call a)) → Each Q left
+  each_left Q holds = each_made leaver_with (λ a. a.ticket) (IsLeaving s) (λ w a is. is.0) list apart (λ a. has_number (leaving plan) a.ticket ≡ true) Q holds plan.away departing (each_by _ plan.away away_leaves)
+
+  met : (w : WaitingCall) → IsIn w list.calls → IsMet s (pending_of list.opened plan.fetches) after.calls batch left w
+  met w m =
+      elim (has_number (leaving plan) w.ticket) as (λ b. has_number (leaving plan) w.ticket ≡ b → IsMet s (pending_of list.opened plan.fetches) after.calls batch left w) [
+        | true ↦ λ is. ⊎_elim
+            (λ x. inr (inl (call_with w.call x.0, (in_made call_with (λ x. x.ticket) (IsJoining s) (λ w x is. is.0) list apart plan.calls x.0 x.1.0 w m x.1.2.0, refl))))
+            (λ a. inr (inr (leaver_with w.call a.0, (in_made leaver_with (λ a. a.ticket) (IsLeaving s) (λ w a is. is.0) list apart plan.away a.0 a.1.0 w m a.1.2.0, sym a.1.2.0, refl))))
+            (leaver w m is)
+        | false ↦ λ is. inl (bound_all s list.opened plan.fetches w, (stays_in w m is, bound_cases s list.opened plan.fetches w))
+      ] refl
+
+  -- a call whose ticket leaves is none that stays
+  not_staying : (v w : WaitingCall) (ticket : ℕ) → has_number (leaving plan) ticket ≡ true → has_number (leaving plan) w.ticket ≡ false → v.ticket ≡ ticket → v ≢ w
+  not_staying v w ticket among stay is same =
+      let wrong : true ≡ false = sym among ∙ ap (has_number (leaving plan)) (sym is ∙ ap (λ (z : WaitingCall). z.ticket) same) ∙ stay in
+      absurd (cc)
+
+  lane_bound : (w : WaitingCall) → lane_of (bound_all s list.opened plan.fetches w) ≡ lane_of w
+  lane_bound w = ap (λ (c : CallRec). c.id.client) (call_bound_all s list.opened plan.fetches w)
+
+  gathered_made : IsGathered s list after (pending_of list.opened plan.fetches) batch left
+  gathered_made = record {
     fetches = ap (λ (l : WaitList). l.fetches) after_is;
     last = ap (λ (l : WaitList). l.last) after_is;
     below = subst (λ n. list.opened ≤ n) (sym (ap (λ (l : WaitList). l.opened) after_is)) (omega arith);
     new = subst (λ n. Each (λ f. (list.opened ≤ f.number) × (f.number < n)) (pending_of list.opened plan.fetches)) (sym (ap (λ (l : WaitList). l.opened) after_is)) (new_numbers list.opened plan.fetches);
+    asked = each_asked s list.calls list.opened plan.fetches wanting;
     tidy = tidy_after;
     kept = each_after (IsKept s list (pending_of list.opened plan.fetches)) (λ w m _. (w, (m, bound_cases s list.opened plan.fetches w)));
-    joined = each_batch s list (λ x. Unit {0}) (IsJoined s list) plan.calls apart (λ w x m free j _. (w, (m, free, refl, j.1))) joining (each_all _ plan.calls (λ x. tt));
+    joined = each_joined (IsJoined s list) (λ w x m free j _. (w, (m, free, refl, j.1)));
+    gone = each_left (IsLeft s list) (λ w a m free l _. (w, (m, free, sym l.0, refl, l.1)));
+    all = each_by _ list.calls met;
+    ticket_apart = each_after (λ w. Each (λ y. y.ticket ≢ w.ticket) left) (λ w m stay.
+        each_left (λ y. y.ticket ≢ (bound_all s list.opened plan.fetches w).ticket) (λ v a vm free l among same.
+        let wrong : true ≡ false = sym among ∙ ap (has_number (leaving plan)) (same ∙ ticket_bound_all s list.opened plan.fetches w) ∙ stay in
+        absurd (cc)));
     kept_apart = λ lanes.
         subst (λ (l : WaitList). Apart lane_of l.calls) (sym after_is)
         (apart_filter lane_of (λ w. stays w) (map (λ w. bound_all s list.opened plan.fetches w) list.calls)
-        (apart_map lane_of (λ w. bound_all s list.opened plan.fetches w) list.calls
-        (apart_as lane_of (λ w. lane_of (bound_all s list.opened plan.fetches w)) list.calls (λ w. ap (λ (c : CallRec). c.id.client) (sym (call_bound_all s list.opened plan.fetches w))) lanes)));
-    joined_apart = λ lanes. apart_batch s list plan.calls apart lanes planned_apart joining;
-    both_apart = λ lanes.
-        each_after (λ w. Each (λ x. planned_lane x ≢ lane_of w) (batch_calls list plan.calls)) (λ w m stays.
-        each_batch s list (λ x. has_number (leaving plan) x.ticket ≡ true) (λ x. planned_lane x ≢ lane_of (bound_all s list.opened plan.fetches w)) plan.calls apart
-        (λ v x vm free j among same.
-        let one : v ≡ w = apart_same lane_of list.calls v w lanes vm m (same ∙ ap (λ (c : CallRec). c.id.client) (call_bound_all s list.opened plan.fetches w)) in
-        let wrong : true ≡ false = sym among ∙ ap (has_number (leaving plan)) (sym j.0 ∙ ap (λ (z : WaitingCall). z.ticket) one) ∙ stays in
-        absurd (cc))
-        joining
-        (each_by _ plan.calls (λ x xm. ap (λ ts. has_number ts x.ticket) leaving_is ∙ planned_has plan.calls x xm)));
+        (apart_map lane_of (λ w. bound_all s list.opened plan.fetches w) list.calls (apart_as lane_of (λ w. lane_of (bound_all s list.opened plan.fetches w)) list.calls (λ w. sym (lane_bound w)) lanes)));
+    joined_apart = λ lanes. apart_made call_with (λ x. x.ticket) (IsJoining s) (λ w x is. is.0) list apart planned_lane (λ c x. refl) lanes plan.calls planned_apart joining;
+    gone_apart = λ lanes. apart_made leaver_with (λ a. a.ticket) (IsLeaving s) (λ w a is. is.0) list apart left_lane (λ c a. refl) lanes plan.away away_apart departing;
+    both_apart = λ lanes. each_after (λ w. Each (λ x. planned_lane x ≢ lane_of w) batch) (λ w m stay.
+        each_joined (λ x. planned_lane x ≢ lane_of (bound_all s list.opened plan.fetches w)) (λ v x vm free j among same.
+        not_staying v w x.ticket among stay j.0 (apart_same lane_of list.calls v w lanes vm m (same ∙ lane_bound w))));
+    left_apart = λ lanes. each_after (λ w. Each (λ y. left_lane y ≢ lane_of w) left) (λ w m stay.
+        each_left (λ y. left_lane y ≢ lane_of (bound_all s list.opened plan.fetches w)) (λ v a vm free l among same.
+        not_staying v w a.ticket among stay l.0 (apart_same lane_of list.calls v w lanes vm m (same ∙ lane_bound w))));
+    parted = λ lanes. each_joined (λ x. Each (λ y. left_lane y ≢ planned_lane x) left) (λ w x m free j _.
+        each_left (λ y. left_lane y ≢ planned_lane (call_with w.call x)) (λ v a vm _ l _ same.
+        let one : v ≡ w = apart_same lane_of list.calls v w lanes vm m same in
+        let wrong : Joins x.denied x.parent x.last j.1.0 ≡ Leaves a.to = sym j.1.1 ∙ ap (λ (z : WaitingCall). fate s z.call) (sym one) ∙ l.1 in
+        absurd (cc)));
   }
 
-  pub sends_are : plan.sends ≡ map (λ wanted. sending.Fetch wanted.key) plan.fetches
-  sends_are = going.sends
+  pub gathered_list : IsGathered s list after (pending_of list.opened plan.fetches) (batch_calls list plan.calls) left
+  gathered_list = subst (λ xs. IsGathered s list after (pending_of list.opened plan.fetches) xs left) (sym (batch_is list plan.calls)) gathered_made
 
--- ---- the records
+  pub asked_are : filter_map asked_of plan.sends ≡ keys_of plan.fetches
+  asked_are = going.asked
 
-asks_are : (node : NodeState) (number : ℕ) (fetches : List Wanted) → gather_letters node number (sends_of fetches) ≡ map (λ f. ask_letter node f.number f.key) (pending_of number fetches)
-asks_are node number [] = refl
-asks_are node number (wanted ∷ fetches) = ap (λ ls. ask_letter node number wanted.key ∷ ls) (asks_are node (number + 1) fetches)
+  pub away_are : filter_map away_of plan.sends ≡ plan.away
+  away_are = going.away
 
--- the owners of the keys are asked, in the order of the fetches
-pub letters_are : (node : NodeState) → IsTidy node.waiting → Each (λ w. w.fetch ≡ None → Stays (fate (setting_at node) w.call)) node.waiting.calls
-    → gather_letters node node.waiting.opened (plan_at node).sends ≡ map (λ f. ask_letter node f.number f.key) (pending_of node.waiting.opened (plan_at node).fetches)
-unfolding plan_at
-letters_are node t stay =
-    ap (gather_letters node node.waiting.opened) (sends_are (setting_at node) node.waiting t stay) ∙ asks_are node node.waiting.opened (plan_of (setting_at node) node.waiting).fetches
+-- ---- a call that is skipped
 
--- the node's list, its fetches and the calls of its batch when it has gathered
-pub gathered_node : (node : NodeState) → IsTidy node.waiting → Each (λ w. w.fetch ≡ None → Stays (fate (setting_at node) w.call)) node.waiting.calls
+-- it stays as it is
+pub skipped_stays : (s : Setting) (list after : WaitList) (opened : List PendingFetch) (batch : List BatchCall) (left : List Leaver) → IsGathered s list after opened batch left → (w : WaitingCall) → IsIn w list.calls
+    → fate s w.call ≡ Skips → IsIn w after.calls
+skipped_stays s list after opened batch left g w m skips =
+    ⊎_elim
+    (λ k. ⊎_elim
+    (λ e. subst (λ v. IsIn v after.calls) e k.1.0)
+    (λ e. let wrong : Skips ≡ Waits e.1.0.key = sym skips ∙ e.1.1.1 in absurd (cc))
+    k.1.1)
+    (λ away. ⊎_elim
+    (λ x.
+    let j = each_in (IsJoined s list) batch x.0 g.joined x.1.0 in
+    let wrong : Skips ≡ Joins x.0.denied x.0.parent x.0.last j.1.3.0 = sym skips ∙ ap (fate s) (sym x.1.1 ∙ j.1.2) ∙ j.1.3.1 in
+    absurd (cc))
+    (λ y.
+    let l = each_in (IsLeft s list) left y.0 g.gone y.1.0 in
+    let wrong : Skips ≡ Leaves y.0.to = sym skips ∙ ap (fate s) (sym y.1.2 ∙ l.1.3) ∙ l.1.4 in
+    absurd (cc))
+    away)
+    (each_in (IsMet s opened after.calls batch left) list.calls w g.all m)
+
+-- ---- a node
+
+-- the node's list, its fetches, the calls of its batch and those that leave when it has gathered
+pub gathered_node : (node : NodeState) → IsTidy node.waiting
     → IsGathered (setting_at node) node.waiting (without_calls (with_fetches node.waiting (plan_at node).fetches) (leaving (plan_at node)))
-    (pending_of node.waiting.opened (plan_at node).fetches) (batch_calls node.waiting (plan_at node).calls)
+    (pending_of node.waiting.opened (plan_at node).fetches) (batch_calls node.waiting (plan_at node).calls) (leavers node.waiting (plan_at node).away)
 unfolding plan_at
-gathered_node node t stay = gathered_list (setting_at node) node.waiting t stay
+gathered_node node t = gathered_list (setting_at node) node.waiting t
+
+-- where each free call stays none leaves
+pub none_leave : (node : NodeState) → IsTidy node.waiting → Each (λ w. w.fetch ≡ None → Stays (fate (setting_at node) w.call)) node.waiting.calls → (plan_at node).away ≡ []
+unfolding plan_at
+none_leave node t stay = none_away (setting_at node) node.waiting.calls (plan_of (setting_at node) node.waiting).away (departing (setting_at node) node.waiting t)
+    (λ w m. each_in (λ v. v.fetch ≡ None → Stays (fate (setting_at node) v.call)) node.waiting.calls w stay m)

@@ -38,6 +38,18 @@ pub in_map : {A B : Type 0} (f : A → B) (xs : List A) (x : A) → IsIn x xs �
 in_map f [] x m = absurd m
 in_map f (y ∷ ys) x m = ⊎_elim (λ e. inl (ap f e)) (λ r. inr (in_map f ys x r)) m
 
+pub map_in : {A B : Type 0} (f : A → B) (xs : List A) (y : B) → IsIn y (map f xs) → (x : A) × (IsIn x xs × (f x ≡ y))
+map_in f [] y m = absurd m
+map_in f (x ∷ xs) y m = ⊎_elim (λ e. (x, (inl refl, e))) (λ r. let z = map_in f xs y r in (z.0, (inr z.1.0, z.1.1))) m
+
+pub in_filter : {A : Type 0} (p : A → Bool) (xs : List A) (x : A) → IsIn x xs → p x ≡ true → IsIn x (filter p xs)
+in_filter p [] x m is = absurd m
+in_filter p (y ∷ ys) x m is =
+    ⊎_elim
+    (λ e. subst (λ b. IsIn x (cond b (y ∷ filter p ys) (filter p ys))) (sym (ap p e ∙ is)) (inl e))
+    (λ r. elim (p y) as (λ b. IsIn x (cond b (y ∷ filter p ys) (filter p ys))) [ true ↦ inr (in_filter p ys x r is) | false ↦ in_filter p ys x r is ])
+    m
+
 -- ---- what holds of each item
 
 pub each_in : {A : Type 0} (P : A → Type 0) (xs : List A) (x : A) → Each P xs → IsIn x xs → P x

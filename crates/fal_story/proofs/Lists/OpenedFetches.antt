@@ -76,6 +76,9 @@ none_free b (Some n) e = absurd (cc)
 abbrev pub IsBound : Setting → List PendingFetch → WaitingCall → WaitingCall → Type 0
 IsBound s fetches was w = (w ≡ was) ⊎ ((was.fetch ≡ None) × ((f : PendingFetch) × (IsIn f fetches × (fate s was.call ≡ Waits f.key) × (w ≡ record was { fetch = Some f.number }))))
 
+pub bound_call : (s : Setting) (fetches : List PendingFetch) (was w : WaitingCall) → IsBound s fetches was w → w.call ≡ was.call
+bound_call s fetches was w is = ⊎_elim (λ e. ap (λ (y : WaitingCall). y.call) e) (λ e. ap (λ (y : WaitingCall). y.call) e.1.1.2) is
+
 pub bound_cases : (s : Setting) (number : ℕ) (fetches : List Wanted) (w : WaitingCall) → IsBound s (pending_of number fetches) w (bound_all s number fetches w)
 bound_cases s number [] w = inl refl
 bound_cases s number (wanted ∷ fetches) w =
@@ -92,6 +95,25 @@ bound_cases s number (wanted ∷ fetches) w =
 -- the waiters of a fetch are the calls that are to wait for its key
 abbrev pub IsWanting : Setting → List WaitingCall → Wanted → Type 0
 IsWanting s ws wanted = (wanted.waiters ≡ tickets_of (filter (λ w. is_waiting s wanted.key w) ws)) × (0 < length wanted.waiters)
+
+-- the fetch is of a key for which a free call of the list is to wait
+abbrev pub IsAsked : Setting → List WaitingCall → PendingFetch → Type 0
+IsAsked s ws f = (w : WaitingCall) × (IsIn w ws × (w.fetch ≡ None) × (fate s w.call ≡ Waits f.key))
+
+some_told : (p : WaitingCall → Bool) (ws : List WaitingCall) → 0 < length (tickets_of (filter p ws)) → (w : WaitingCall) × (IsIn w ws × (p w ≡ true))
+some_told p [] h = absurd (omega arith)
+some_told p (w ∷ ws) h =
+    elim (p w) as (λ b. p w ≡ b → 0 < length (tickets_of (cond b (w ∷ filter p ws) (filter p ws))) → (v : WaitingCall) × (IsIn v (w ∷ ws) × (p v ≡ true))) [
+      | true ↦ λ is _. (w, (inl refl, is))
+      | false ↦ λ _ h. let rest = some_told p ws h in (rest.0, (inr rest.1.0, rest.1.1))
+    ] refl h
+
+pub each_asked : (s : Setting) (ws : List WaitingCall) (number : ℕ) (fetches : List Wanted) → Each (IsWanting s ws) fetches → Each (IsAsked s ws) (pending_of number fetches)
+each_asked s ws number [] h = tt
+each_asked s ws number (wanted ∷ fetches) h =
+    let one = some_told (λ w. is_waiting s wanted.key w) ws (subst (λ ts. 0 < length ts) h.0.0 h.0.1) in
+    let free = none_free (waits_for s wanted.key one.0.call) one.0.fetch one.1.1 in
+    ((one.0, (one.1.0, free.0, waits_key wanted.key (fate s one.0.call) free.1)), each_asked s ws (number + 1) fetches h.1)
 
 opened_is : (s : Setting) (list : WaitList) (wanted : Wanted) → Apart (λ w. w.ticket) list.calls → IsWanting s list.calls wanted
     → after_open list wanted.key wanted.waiters ≡ record list {

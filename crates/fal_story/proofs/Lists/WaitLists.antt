@@ -15,7 +15,7 @@ use Rattle.fal_node.specs.Letters.{reply_letter}
 use Rattle.fal_wait.specs.declared.pending_fetch.PendingFetch.{PendingFetch}
 use Rattle.fal_wait.specs.declared.waiting_call.WaitingCall.{WaitingCall}
 use Rattle.fal_wait.specs.Lists.{without_first, has_number}
-use Rattle.fal_wait.specs.Waiting.{are_rising, WaitList, call_of, fetch_of, is_new, with_call, after_admit, without_call, off_fetch, waits_on, without_fetch, settled_by, after_settle}
+use Rattle.fal_wait.specs.Waiting.{are_rising, WaitList, call_with_ticket, fetch_of, is_new, with_call, after_admit, without_call, off_fetch, waits_on, without_fetch, settled_by, after_settle}
 use Rattle.fal_story.proofs.Events.Shows.{IsTidy, IsTied, askings_of}
 use Rattle.fal_story.proofs.Lists.Each.{Each, Apart, each_weaker, each_join, each_both}
 use Rattle.fal_story.proofs.Lists.Grown.{tells, unequal}
@@ -115,7 +115,7 @@ has_ticket p (w ∷ ws) h =
     ]
 
 -- by its ticket a call is found
-pub call_found : (list : WaitList) → Apart (λ w. w.ticket) list.calls → Each (λ w. call_of list w.ticket ≡ Some w.call) list.calls
+pub call_found : (list : WaitList) → Apart (λ w. w.ticket) list.calls → Each (λ w. call_with_ticket list w.ticket ≡ Some w.call) list.calls
 call_found list h = each_by _ list.calls (λ w m. ap (λ o. option_map (λ (v : WaitingCall). v.call) o) (find_apart (λ (v : WaitingCall). v.ticket) list.calls w h m))
 
 -- ---- a call is admitted
@@ -284,7 +284,7 @@ tidy_withouts list tickets t free =
 
 -- ---- the waiters of a fetch leave
 
-each_refused : (list : WaitList) (errno : Errno) (point : ℕ) (ws : List WaitingCall) → Each (λ w. call_of list w.ticket ≡ Some w.call) ws
+each_refused : (list : WaitList) (errno : Errno) (point : ℕ) (ws : List WaitingCall) → Each (λ w. call_with_ticket list w.ticket ≡ Some w.call) ws
     → refusals list errno point (tickets_of ws) ≡ map (λ w. reply_letter w.call (Carried point) (Fail errno)) ws
 each_refused list errno point [] h = refl
 each_refused list errno point (w ∷ ws) h =

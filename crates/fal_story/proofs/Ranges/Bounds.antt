@@ -1,5 +1,5 @@
 -- What holds of every value that an actor keeps, so that each record that it makes is within the ranges of the format, and no counter passes the end of its type.
-use Rattle.std.proofs.Common.{◌≡◌, ℕ, ◌+◌, ◌≤◌, length, Some}
+use Rattle.std.proofs.Common.{◌≡◌, ℕ, ◌+◌, ◌*◌, ◌≤◌, List, [], ◌∷◌, length, Some}
 use Rattle.std.specs.Prelude.{slice_get}
 use Rattle.fal_base.specs.declared.event.Envelope.{Envelope}
 use Rattle.fal_base.specs.declared.inode.Dentry.{Dentry}
@@ -11,8 +11,10 @@ use Rattle.fal_client.specs.declared.event.ClientEvent.{ClientEvent}
 use Rattle.fal_client.specs.declared.event.ClientEvent.TheVariants as client
 use Rattle.fal_node.specs.declared.event.NodeEvent.{NodeEvent}
 use Rattle.fal_node.specs.declared.event.NodeEvent.TheVariants as node
+use Rattle.fal_node.specs.declared.item.Item.{Item}
 use Rattle.fal_node.specs.State.{NodeState}
 use Rattle.fal_wire.specs.declared.message.Message.{Message}
+use Rattle.fal_wire.specs.declared.message.Message.TheVariants as message
 use Rattle.fal_wire.specs.Messages.{Fits, FieldsFit, spelling}
 use Rattle.fal_wire.specs.Ops.{call_field}
 use Rattle.fal_wire.specs.Rows.{inode_field, dentry_field}
@@ -27,13 +29,24 @@ pub record IsNodeRanged (x : NodeState) : Type 0 where
   pub items : Each (λ item. FieldsFit item.message) x.items
   pub batches : Each (λ batch. (length batch.calls ≤ 64) × Each (λ planned. call_field.Fits planned.call) batch.calls) x.batches
 
+-- how many operations begin to keep calls off some keys, and so cancel the pending fetches, once this item is served: a question is none
+abbrev pub cancels : Message → ℕ
+cancels (message.FetchAsk asker number key) = 0
+cancels other = 0
+
+abbrev pub cancelling : List Item → ℕ
+cancelling [] = 0
+cancelling (item ∷ items) = cancels item.message + cancelling items
+
 -- the counters of a node after so many events of the cluster: each event raises one of them by one, but for fetches, of which one Gather may open several.
--- These are counted by the pending ones, of which there are no more than waiting calls.
+-- These are counted by the pending ones, of which there are no more than waiting calls, and so at most 16, one for each lane. As many are cancelled at most
+-- by each operation that the node has taken, and none yet by one of which the item is still to be served
 pub record IsNodeCounted (events : ℕ) (x : NodeState) : Type 0 where
   pub tickets : x.waiting.tickets ≤ events
   pub items : x.items_numbered ≤ events
   pub batches : x.batches_numbered ≤ events
-  pub fetches : x.waiting.opened + x.waiting.tickets ≤ events + length x.waiting.fetches
+  pub operation : x.last_operation ≤ 10000
+  pub fetches : x.waiting.opened + x.waiting.tickets + 16 * cancelling x.items ≤ events + length x.waiting.fetches + 16 * x.last_operation
 
 -- the bytes of an envelope are a record
 abbrev pub IsRecord : Envelope → Type 0

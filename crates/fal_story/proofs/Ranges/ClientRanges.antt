@@ -24,7 +24,7 @@ use Rattle.fal_client.specs.declared.news.News.TheVariants as news
 use Rattle.fal_client.specs.News.{news_of}
 use Rattle.fal_base.specs.OpPaths.{bad_path}
 use Rattle.fal_client.specs.State.{ClientState, Work as ClientWork, unchanged}
-use Rattle.fal_client.specs.Step.{IsInRange, attempt_of, is_lane as is_lanes, id_at, call_message, begun, skipped, started, sent_next, answered, replied, is_about, told, heard_by, heard, read_step, got, client_step}
+use Rattle.fal_client.specs.Step.{IsInRange, attempt_of, is_to_lane as is_lanes, id_at, call_message, begun, skipped, started, sent_next, answered, replied, is_about, news_told, heard_by, heard, read_step, got, client_step}
 use Rattle.fal_wire.specs.declared.fault.WireFault.{WireFault}
 use Rattle.fal_wire.specs.declared.message.Message.{Message}
 use Rattle.fal_wire.specs.declared.message.Message.TheVariants as message
@@ -186,10 +186,10 @@ replied_keeps c point reply None is = let seq = is.seq in record { within = reco
 replied_keeps c point reply (Some listing) is = unchanged_keeps c is
 
 heard_keeps : (c : ClientState) (point : ℕ) (id : CallId) (reply : Reply) (current : Option Current) → IsClient c → KeepsRanges (heard c point (Some (id, news.Replied reply)) current)
-unfolding heard heard_by told
+unfolding heard heard_by news_told
 heard_keeps c point id reply None is = unchanged_keeps c is
 heard_keeps c point id reply (Some current) is =
-    elim (is_about c current id) as (λ b. KeepsRanges (cond b (told c current point (news.Replied reply)) (unchanged c))) [ true ↦ replied_keeps c point reply current.listing is | false ↦ unchanged_keeps c is ]
+    elim (is_about c current id) as (λ b. KeepsRanges (cond b (news_told c current point (news.Replied reply)) (unchanged c))) [ true ↦ replied_keeps c point reply current.listing is | false ↦ unchanged_keeps c is ]
 
 -- the record is an answer
 abbrev IsAnswer : Message → Type 0

@@ -1,5 +1,5 @@
--- The counters of a waiting list.
-use Rattle.std.proofs.Common.{◌≡◌, inl, inr, ℕ, suc, ◌+◌, ◌<◌, ◌≤◌, ◌==◌, nat_lt, Bool, true, false, ◌&&◌, cond, List, [], ◌∷◌, length, map, filter, Option, Some, None, refl, ap, arith}
+-- The counters of a waiting list, and what items have still to cancel.
+use Rattle.std.proofs.Common.{◌≡◌, inl, inr, ℕ, suc, ◌+◌, ◌<◌, ◌≤◌, ◌==◌, nat_lt, Bool, true, false, ◌&&◌, cond, List, [], ◌∷◌, ◌++◌, length, map, filter, Option, Some, None, refl, ap, arith}
 use Rattle.std.specs.List.{list_all}
 use Rattle.std.proofs.lemmas.Bool.Decides.{nat_tests}
 use Rattle.std.proofs.lemmas.List.{length-append, length-map}
@@ -8,6 +8,7 @@ use Rattle.fal_base.specs.declared.call.CallRec.{CallRec}
 use Rattle.fal_batch.proofs.Truth.{both_first, both_second}
 use Rattle.fal_batch.specs.declared.parts.Wanted.{Wanted}
 use Rattle.fal_node.specs.Deliver.{without_calls}
+use Rattle.fal_node.specs.declared.item.Item.{Item}
 use Rattle.fal_node.specs.Gather.{with_fetches}
 use Rattle.fal_wait.specs.declared.pending_fetch.PendingFetch.{PendingFetch}
 use Rattle.fal_wait.specs.declared.waiting_call.WaitingCall.{WaitingCall}
@@ -16,6 +17,7 @@ use Rattle.fal_wait.specs.Waiting.{are_rising, WaitList, waits_on, fetch_of, is_
 use Rattle.fal_story.proofs.Events.Shows.{IsTidy, IsTied}
 use Rattle.fal_story.proofs.Lists.Each.{Each, Apart, each_weaker}
 use Rattle.fal_story.proofs.Lists.Members.{IsIn, each_all, each_of_all}
+use Rattle.fal_story.proofs.Ranges.Bounds.{cancels, cancelling}
 use Rattle.fal_story.proofs.Ranges.Counts.{Differ, no_more}
 
 -- ---- no more fetches are pending than calls wait, and no more of these than tickets were given
@@ -125,3 +127,15 @@ settle_count list number = elim (fetch_of list number) as (λ f. IsSettledBy lis
   | None ↦ record { tickets = refl; opened = refl; fetches = omega arith }
   | Some f ↦ record { tickets = refl; opened = refl; fetches = one_less (λ g. g.number == number) list.fetches }
 ]
+
+-- ---- what items have still to cancel
+
+pub cancelling_join : (xs ys : List Item) → cancelling (xs ++ ys) ≡ cancelling xs + cancelling ys
+cancelling_join [] ys = omega arith
+cancelling_join (x ∷ xs) ys = let h = cancelling_join xs ys in omega arith
+
+pub cancelling_without : (test : Item → Bool) (xs : List Item) → cancelling (without_first test xs) ≤ cancelling xs
+cancelling_without test [] = omega arith
+cancelling_without test (x ∷ xs) =
+    let h = cancelling_without test xs in
+    elim (test x) as (λ b. cancelling (cond b xs (x ∷ without_first test xs)) ≤ cancels x.message + cancelling xs) [ true ↦ omega arith | false ↦ omega arith ]

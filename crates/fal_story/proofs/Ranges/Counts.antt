@@ -1,6 +1,7 @@
--- A run has no more commits than the cluster has calls.
-use Rattle.std.proofs.Common.{◌≡◌, ◌≢◌, inl, inr, ⊎_elim, ℕ, zero, suc, ◌+◌, ◌≤◌, List, [], ◌∷◌, ◌++◌, length, Some, None, refl, sym, ap, ◌∙◌, subst, arith}
-use Rattle.std.specs.Prelude.{slice_get, sum_by}
+-- A run has no more commits than the cluster has calls, and a node no more waiting calls than there are lanes.
+use Rattle.std.proofs.Common.{◌≡◌, ◌≢◌, inl, inr, ⊎_elim, ℕ, zero, suc, ◌+◌, ◌<◌, ◌≤◌, false, List, [], ◌∷◌, ◌++◌, length, Some, None, refl, sym, ap, ◌∙◌, subst, arith}
+use Rattle.std.specs.Prelude.{slice_get, sum_by, ◌==◌, IsTrue}
+use Rattle.std.proofs.lemmas.Bool.Decides.{nat_tests}
 use Rattle.std.proofs.lemmas.List.{length-append}
 use Rattle.std.proofs.lemmas.List.Sums.{sum_by-cons}
 use Rattle.fal_base.specs.declared.call.Call.{Call}
@@ -10,10 +11,12 @@ use Rattle.fal_base.specs.declared.entry.Entry.TheVariants as entry
 use Rattle.fal_base.specs.Commits.{Commit}
 use Rattle.fal_base.specs.EachOnce.{NotCommitted}
 use Rattle.fal_base.specs.Transcript.{numbered, lane_call, call_of, commit_by, commits_of}
-use Rattle.fal_story.proofs.Events.Shows.{Ghost, Shows}
-use Rattle.fal_story.proofs.Lists.Each.{Each, each_both, each_join}
+use Rattle.fal_story.proofs.Drain.Actors.{waiters_there}
+use Rattle.fal_story.proofs.Events.Shows.{Ghost, Shows, lane_of}
+use Rattle.fal_story.proofs.Lists.Each.{Each, each_weaker, each_both, each_join}
 use Rattle.fal_story.proofs.Lists.Members.{IsIn, in_front}
-use Rattle.fal_story.specs.Clusters.{IsCluster}
+use Rattle.fal_story.proofs.Lists.Grown.{tells}
+use Rattle.fal_story.specs.Clusters.{IsCluster, is_lane}
 use Rattle.fal_story.specs.World.{World}
 
 -- ---- items that differ, each of which stands in a list, are no more than the list has
@@ -154,4 +157,38 @@ few_commits config w h cluster shows =
     let all = lanes_length 1 config.lanes in
     let few = cluster.few_calls in
     let same : length w.commits ≡ length (commits_of config w.entries) = ap length shows.good.script.joined.same in
+    omega arith
+
+-- ---- the lanes of a cluster
+
+lanes_to : ℕ → List ℕ
+lanes_to zero = []
+lanes_to (suc k) = suc k ∷ lanes_to k
+
+lanes_count : (k : ℕ) → length (lanes_to k) ≡ k
+unfolding lanes_to
+lanes_count zero = refl
+lanes_count (suc k) = ap suc (lanes_count k)
+
+lane_among_all : (k l : ℕ) → 0 < l → l ≤ k → IsIn l (lanes_to k)
+unfolding lanes_to
+lane_among_all zero l some le = absurd (omega arith)
+lane_among_all (suc k) l some le = ⊎_elim (λ t. inl (sym t.1)) (λ t. inr (lane_among_all k l some (below l k t.0 le))) (tells l (suc k))
+  where
+    below : (l k : ℕ) → (l == suc k) ≡ false → l ≤ suc k → l ≤ k
+    below l k ne le = grind (arith, nat_tests)
+
+lane_listed : (config : Config) (l : ℕ) → IsTrue (is_lane config l) → IsIn l (lanes_to (length config.lanes))
+lane_listed config l is =
+    let some : 0 < l = grind (arith, nat_tests) in
+    let le : l ≤ length config.lanes = grind (arith, nat_tests) in
+    lane_among_all (length config.lanes) l some le
+
+-- of each lane at most one call waits at a node
+pub few_waiting : (config : Config) (w : World) (n : ℕ) (h : Ghost) → Shows config w h → length (w.nodes n).waiting.calls ≤ length config.lanes
+few_waiting config w n h shows =
+    let lanes = length config.lanes in
+    let calls = (w.nodes n).waiting.calls in
+    let few = no_more lane_of calls (lanes_to lanes) (shows.held n).waiters_apart (each_weaker _ (λ x. IsIn (lane_of x) (lanes_to lanes)) calls (λ x there. lane_listed config (lane_of x) there) (waiters_there config w n h shows)) in
+    let all = lanes_count lanes in
     omega arith

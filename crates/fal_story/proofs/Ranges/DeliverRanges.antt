@@ -12,12 +12,12 @@ use Rattle.fal_base.specs.declared.reply.Reply.TheVariants.{Fail}
 use Rattle.fal_base.proofs.Maps.{put_cases}
 use Rattle.fal_exec.specs.RowCall.{row_names}
 use Rattle.fal_node.specs.declared.event.NodeEvent.TheVariants.{Deliver}
-use Rattle.fal_node.specs.Deliver.{admitted, take_call, installed, emptied, refusal, refusals, refuse, settle, settle_pending, take_message, take_read, delivered}
+use Rattle.fal_node.specs.Deliver.{admitted, take_call, learned, dismissed, refusal, refusals, refuse, settle, settle_pending, take_message, take_read, delivered}
 use Rattle.fal_node.specs.Letters.{Work, begun, is_asker}
 use Rattle.fal_node.specs.State.{NodeState, with_item}
-use Rattle.fal_node.specs.Step.{is_node, node_step, only_if}
+use Rattle.fal_node.specs.Step.{is_to_node, node_step, only_if}
 use Rattle.fal_wait.specs.declared.pending_fetch.PendingFetch.{PendingFetch}
-use Rattle.fal_wait.specs.Waiting.{WaitList, call_of, fetch_of, after_settle}
+use Rattle.fal_wait.specs.Waiting.{WaitList, call_with_ticket, fetch_of, after_settle}
 use Rattle.fal_wire.specs.declared.fault.WireFault.{WireFault}
 use Rattle.fal_wire.specs.declared.message.Found.{Found}
 use Rattle.fal_wire.specs.declared.message.Found.TheVariants as found
@@ -28,8 +28,8 @@ use Rattle.fal_wire.specs.Ops.{call_field}
 use Rattle.fal_wire.specs.Rows.{dentry_field}
 use Rattle.fal_wire.proofs.ReadingLaws.{spelled_reads}
 use Rattle.fal_story.proofs.Lists.Each.{Each, each_join}
-use Rattle.fal_story.proofs.Ranges.Bounds.{IsNodeCounted, IsRecord}
-use Rattle.fal_story.proofs.Ranges.Counters.{withouts_same, admit_count, settle_count}
+use Rattle.fal_story.proofs.Ranges.Bounds.{IsNodeCounted, IsRecord, cancels}
+use Rattle.fal_story.proofs.Ranges.Counters.{withouts_same, admit_count, settle_count, cancelling_join}
 use Rattle.fal_story.proofs.Ranges.MessageRanges.{reply_fits, call_of_record, got_dentry, id_of_call, fail_fits}
 use Rattle.fal_story.proofs.Ranges.NodeRanges.{IsStart, KeepsRanges, LetterFits, within, counted_more, keeps_same}
 use Rattle.fal_story.proofs.Ranges.WaitRanges.{WaitersFit, fit_admit, fit_withouts, fit_settle, waiter_of}
@@ -52,7 +52,7 @@ admitted_keeps events x call start fits =
     let count_tickets = count.tickets in
     let count_opened = count.opened in
     let count_fetches = ap length count.fetches in
-    let now : IsNodeCounted (events + 1) (admitted x call) = record { tickets = omega arith; items = omega arith; batches = omega arith; fetches = omega arith } in
+    let now : IsNodeCounted (events + 1) (admitted x call) = record { tickets = omega arith; items = omega arith; batches = omega arith; operation = more.operation; fetches = omega arith } in
     record {
       within = within events (begun (admitted x call)) few now tt (omega arith) start.number (omega arith) (omega arith);
       ranged = record { rows = ranged.rows; replica = ranged.replica; waiting = fit_admit x.waiting call fits ranged.waiting; items = ranged.items; batches = ranged.batches };
@@ -65,9 +65,10 @@ call_keeps events x call start fits =
 
 -- ---- a question
 
-ask_keeps : (events : ℕ) (x : NodeState) (m : Message) → IsStart events x → Fits m → KeepsRanges events (begun (with_item x m))
+-- a question cancels no fetch
+ask_keeps : (events : ℕ) (x : NodeState) (m : Message) → IsStart events x → Fits m → cancels m ≡ 0 → KeepsRanges events (begun (with_item x m))
 unfolding with_item
-ask_keeps events x m start fits =
+ask_keeps events x m start fits none =
     let few = start.few in
     let drawn = start.drawn in
     let opened = start.opened in
@@ -75,7 +76,9 @@ ask_keeps events x m start fits =
     let more = counted_more events x start.counted in
     let before = start.counted in
     let items = before.items in
-    let now : IsNodeCounted (events + 1) (with_item x m) = record { tickets = more.tickets; items = omega arith; batches = more.batches; fetches = more.fetches } in
+    let fetches = more.fetches in
+    let cancelled = cancelling_join x.items (record { number = x.items_numbered; message = m } ∷ []) in
+    let now : IsNodeCounted (events + 1) (with_item x m) = record { tickets = more.tickets; items = omega arith; batches = more.batches; operation = more.operation; fetches = omega arith } in
     record {
       within = within events (begun (with_item x m)) few now tt (omega arith) start.number (omega arith) (omega arith);
       ranged = record { rows = ranged.rows; replica = ranged.replica; waiting = ranged.waiting; items = each_join _ x.items _ ranged.items (fits.fields, tt); batches = ranged.batches };
@@ -98,11 +101,11 @@ settled_counts events x number counted =
     let count_tickets = count.tickets in
     let count_opened = count.opened in
     let count_fetches = count.fetches in
-    record { tickets = omega arith; items = omega arith; batches = omega arith; fetches = omega arith }
+    record { tickets = omega arith; items = omega arith; batches = omega arith; operation = counted.operation; fetches = omega arith }
 
-installed_keeps : (events : ℕ) (x : NodeState) (number : ℕ) (key : Key) (dentry : Dentry) → IsStart events x → dentry_field.Fits dentry → KeepsRanges events (begun (installed x number key dentry))
-unfolding installed
-installed_keeps events x number key dentry start fits =
+learned_keeps : (events : ℕ) (x : NodeState) (number : ℕ) (key : Key) (dentry : Dentry) → IsStart events x → dentry_field.Fits dentry → KeepsRanges events (begun (learned x number key dentry))
+unfolding learned
+learned_keeps events x number key dentry start fits =
     let few = start.few in
     let drawn = start.drawn in
     let opened = start.opened in
@@ -110,9 +113,9 @@ installed_keeps events x number key dentry start fits =
     let counts = settled_counts events x number start.counted in
     let count = settle_count x.waiting number in
     let count_opened = count.opened in
-    let now : IsNodeCounted (events + 1) (installed x number key dentry) = record { tickets = counts.tickets; items = counts.items; batches = counts.batches; fetches = counts.fetches } in
+    let now : IsNodeCounted (events + 1) (learned x number key dentry) = record { tickets = counts.tickets; items = counts.items; batches = counts.batches; operation = counts.operation; fetches = counts.fetches } in
     record {
-      within = within events (begun (installed x number key dentry)) few now tt (omega arith) start.number (omega arith) (omega arith);
+      within = within events (begun (learned x number key dentry)) few now tt (omega arith) start.number (omega arith) (omega arith);
       ranged = record {
         rows = ranged.rows;
         replica = λ q d is.
@@ -134,12 +137,12 @@ refusal_fits (Some call) errno point fits = (reply_fits call.id (Fail errno) (id
 refusals_fit : (list : WaitList) (errno : Errno) (point : ℕ) (tickets : List ℕ) → WaitersFit list → Each LetterFits (refusals list errno point tickets)
 refusals_fit list errno point [] fits = tt
 refusals_fit list errno point (ticket ∷ tickets) fits =
-    each_join LetterFits (refusal (call_of list ticket) errno point) (refusals list errno point tickets)
-    (refusal_fits (call_of list ticket) errno point (λ c is. waiter_of list ticket c is fits))
+    each_join LetterFits (refusal (call_with_ticket list ticket) errno point) (refusals list errno point tickets)
+    (refusal_fits (call_with_ticket list ticket) errno point (λ c is. waiter_of list ticket c is fits))
     (refusals_fit list errno point tickets fits)
 
 refuse_keeps : (events : ℕ) (x : NodeState) (point : ℕ) (errno : Errno) (fetch : PendingFetch) → IsStart events x → KeepsRanges events (refuse x point errno fetch)
-unfolding emptied
+unfolding dismissed
 refuse_keeps events x point errno fetch start =
     let few = start.few in
     let drawn = start.drawn in
@@ -154,7 +157,7 @@ refuse_keeps events x point errno fetch start =
     let same_tickets = same.0 in
     let same_opened = same.1 in
     let same_fetches = ap length same.2 in
-    let now : IsNodeCounted (events + 1) (emptied x fetch.number fetch.waiters) = record { tickets = omega arith; items = counts.items; batches = counts.batches; fetches = omega arith } in
+    let now : IsNodeCounted (events + 1) (dismissed x fetch.number fetch.waiters) = record { tickets = omega arith; items = counts.items; batches = counts.batches; operation = counts.operation; fetches = omega arith } in
     record {
       within = within events (refuse x point errno fetch) few now (refusals_fit x.waiting errno point fetch.waiters ranged.waiting) (omega arith) start.number (omega arith) (omega arith);
       ranged = record {
@@ -169,7 +172,7 @@ refuse_keeps events x point errno fetch start =
 
 settle_keeps : (events : ℕ) (x : NodeState) (point number : ℕ) (key : Key) (what : Found) (fetch : PendingFetch) → IsStart events x → Fits (message.FetchGot number key what)
     → KeepsRanges events (settle x point key what fetch)
-settle_keeps events x point number key (found.Dir dentry) fetch start fits = installed_keeps events x fetch.number key dentry start (got_dentry number key dentry fits)
+settle_keeps events x point number key (found.Dir dentry) fetch start fits = learned_keeps events x fetch.number key dentry start (got_dentry number key dentry fits)
 settle_keeps events x point number key found.Nothing fetch start fits = refuse_keeps events x point Enoent fetch start
 settle_keeps events x point number key found.File fetch start fits = refuse_keeps events x point Enotdir fetch start
 
@@ -184,7 +187,7 @@ message_keeps : (events : ℕ) (x : NodeState) (point : ℕ) (m : Message) → I
 message_keeps events x point (message.Call call) start fits = call_keeps events x call start (call_of_record call fits)
 message_keeps events x point (message.FetchAsk asker number key) start fits =
     elim (is_asker x.table.nodes asker) as (λ b. KeepsRanges events (begun (cond b (with_item x (message.FetchAsk asker number key)) x))) [
-      | true ↦ ask_keeps events x (message.FetchAsk asker number key) start fits
+      | true ↦ ask_keeps events x (message.FetchAsk asker number key) start fits refl
       | false ↦ keeps_same events x start
     ]
 message_keeps events x point (message.FetchGot number key what) start fits = got_keeps events x point number key what (fetch_of x.waiting number) start fits
@@ -199,7 +202,7 @@ delivered_keeps events x e start sent =
 pub deliver_keeps : (events : ℕ) (x : NodeState) (e : Envelope) (work : Work) → IsStart events x → IsRecord e → node_step x (Deliver e) ≡ Some work → KeepsRanges events work
 unfolding node_step
 deliver_keeps events x e work start sent is =
-    elim (is_node e.to x.number) as (λ b. only_if b (delivered x e) ≡ Some work → KeepsRanges events work) [
+    elim (is_to_node e.to x.number) as (λ b. only_if b (delivered x e) ≡ Some work → KeepsRanges events work) [
       | true ↦ λ z. subst (KeepsRanges events) (same_Some (delivered x e) work z) (delivered_keeps events x e start sent)
       | false ↦ λ z. absurd (cc)
     ] is

@@ -116,7 +116,7 @@ executed_keeps events x number batch start short fit =
     let run = run_all y (begun y) 0 batch.calls start.number (omega arith) fit (record { rows = ranged.rows; letters = tt; drawn = omega arith; commits = omega arith; node = refl }) in
     let work : Work = exec_all (begun y) batch.calls in
     let now : IsNodeCounted (events + 1) work.node =
-    subst (IsNodeCounted (events + 1)) (sym run.node) (record { tickets = more.tickets; items = more.items; batches = more.batches; fetches = more.fetches }) in
+    subst (IsNodeCounted (events + 1)) (sym run.node) (record { tickets = more.tickets; items = more.items; batches = more.batches; operation = more.operation; fetches = more.fetches }) in
     let run_drawn = run.drawn in
     let run_commits = run.commits in
     let same_opened : work.node.waiting.opened ≡ x.waiting.opened = ap (λ (n : NodeState). n.waiting.opened) run.node in

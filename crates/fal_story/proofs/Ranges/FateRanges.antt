@@ -107,7 +107,7 @@ FateFits (Waits key) = key_field.Fits key
 FateFits (Joins denied parent last keys) = Unit {0}
 
 -- no name goes by its parent where there are no rules
-never_by_parent : (nodes : ℕ) (last : Option (List ℕ)) → goes_by_parent (opening_table nodes) last ≡ false
+pub never_by_parent : (nodes : ℕ) (last : Option (List ℕ)) → goes_by_parent (opening_table nodes) last ≡ false
 never_by_parent nodes None = refl
 never_by_parent nodes (Some name) = refl
 
@@ -126,7 +126,7 @@ walked_fits s nodes names (Ready parent inos keys) table h =
 abbrev pub IsHere : Placement → ℕ → CallRec → Type 0
 IsHere table me call = (names : List (List ℕ)) → op_names call.op ≡ Some names → route table names ≡ me
 
-not_elsewhere : (s : Setting) (names : List (List ℕ)) → route s.table names ≡ s.me → is_elsewhere s names ≡ false
+pub not_elsewhere : (s : Setting) (names : List (List ℕ)) → route s.table names ≡ s.me → is_elsewhere s names ≡ false
 not_elsewhere s names here =
     ap (λ b. not (goes_by_parent s.table (last_of names)) && not b) (eq-eqb (route s.table names) s.me here) ∙ and_is_false (not (goes_by_parent s.table (last_of names)))
 

@@ -1,20 +1,24 @@
 -- Which operations a record can hold, by tests.
 use Rattle.std.proofs.Common.{◌≡◌, ◌↔◌, ℕ, ◌+◌, ◌<◌, ◌≤◌, ◌^◌, Bool, true, false, cond, ◌&&◌, List, [], ◌∷◌, length, Option, Some, None, Result, Err, refl, IsTrue, arith}
 use Rattle.std.specs.Prelude.{is_ok, nat_le, nat_lt, ◌==◌}
-use Rattle.std.specs.List.{list_all}
+use Rattle.std.specs.List.{All, list_all}
 use Rattle.std.proofs.lemmas.Bool.Decides.{nat_tests}
+use Rattle.std.proofs.lemmas.List.Elements.{All-cons, All-head, All-nil}
 use Rattle.std.proofs.lemmas.List.Sums.{sum_by-cons}
+use Rattle.fal_base.specs.declared.call.Call.{Call}
 use Rattle.fal_base.specs.declared.op.Op.{Op}
 use Rattle.fal_base.specs.declared.op.Op.TheVariants as op
 use Rattle.fal_base.specs.declared.path.PathArg.{PathArg}
-use Rattle.fal_base.specs.declared.path.PathArg.TheVariants.{Good}
-use Rattle.fal_base.specs.OpPaths.{bad_path, fault_of}
-use Rattle.fal_story.specs.Clusters.{is_served}
+use Rattle.fal_base.specs.declared.path.PathArg.TheVariants.{Good, Bad}
+use Rattle.fal_base.specs.declared.path.PathFault.{PathFault}
+use Rattle.fal_base.specs.OpPaths.{bad_path, fault_of, paths_of}
+use Rattle.fal_base.specs.PathArgs.{IsRead}
+use Rattle.fal_story.specs.Clusters.{IsCall, IsCallInRange, IsOpInRange, IsPathInRange, is_served}
 use Rattle.fal_wire.specs.Format.{AreItems}
 use Rattle.fal_base.specs.Names.{is_name}
 use Rattle.fal_base.specs.Paths.{path_bytes}
 use Rattle.fal_wire.specs.Names.{name_field, path_names, path_field, path_arg_field}
-use Rattle.fal_wire.specs.Numbers.{mode_field, want_field, size_field}
+use Rattle.fal_wire.specs.Numbers.{cred_field, mode_field, want_field, size_field}
 use Rattle.fal_wire.specs.Ops.{path_and_mode, path_and_want, path_and_size, op_field}
 
 -- ---- names
@@ -63,53 +67,59 @@ path_passes names fits = (fits.1, names_pass None names fits.0.1.1)
 
 -- ---- operations
 
--- nodes alone answer the operation, and a record can hold it where its path is good
+-- nodes alone answer the operation, a bad path has the fault of its bytes, and a record can hold the operation where its path is good
 abbrev pub CanServe : Op → Type 0
-CanServe o = IsTrue (is_served o) × (bad_path o ≡ None → op_field.Fits o)
+CanServe o = IsTrue (is_served o) × All IsRead (paths_of o) × (bad_path o ≡ None → op_field.Fits o)
 
--- a record can hold the path, where it is good, and the rest passed a test
+-- a bad path has the fault of its bytes, and a record can hold a good one, where the rest passed a test too
 abbrev pub IsHeld : PathArg → Bool → Type 0
-IsHeld path rest = fault_of path ≡ None → path_arg_field.Fits path × IsTrue rest
+IsHeld path rest = IsRead path × (fault_of path ≡ None → path_arg_field.Fits path × IsTrue rest)
 
 pub good_held : (names : List (List ℕ)) (rest : Bool) → IsHeld (Good names) rest ↔ (path_field.Fits names × IsTrue rest)
 unfolding path_arg_field
-good_held names rest = (λ h. h refl, λ h good. h)
+good_held names rest = (λ h. h.1 refl, λ h. (tt, λ good. h))
+
+pub bad_held : (fault : PathFault) (raw : List ℕ) (rest : Bool) → IsRead (Bad fault raw) → IsHeld (Bad fault raw) rest
+bad_held fault raw rest is = (is, λ good. absurd cc)
+
+one_read : (path : PathArg) → IsRead path → All IsRead (path ∷ [])
+one_read path is = All-cons IsRead path [] is (All-nil IsRead)
 
 pub mkdir_is : (path : PathArg) (mode : ℕ) → IsHeld path (nat_lt mode 512) ↔ CanServe (op.Mkdir path mode)
 unfolding bad_path op_field path_and_mode mode_field
 mkdir_is path mode = (
-  λ h. (refl, λ good. let p = h good in (p.0, (grind (arith, nat_tests), p.1))),
-  λ h good. let p = h.1 good in (p.0, p.1.1),
+  λ h. (refl, one_read path h.0, λ good. let p = h.1 good in (p.0, (grind (arith, nat_tests), p.1))),
+  λ h. (All-head IsRead path [] h.1, λ good. let p = h.2 good in (p.0, p.1.1)),
 )
 
 pub create_is : (path : PathArg) (mode : ℕ) → IsHeld path (nat_lt mode 512) ↔ CanServe (op.Create path mode)
 unfolding bad_path op_field path_and_mode mode_field
 create_is path mode = (
-  λ h. (refl, λ good. let p = h good in (p.0, (grind (arith, nat_tests), p.1))),
-  λ h good. let p = h.1 good in (p.0, p.1.1),
+  λ h. (refl, one_read path h.0, λ good. let p = h.1 good in (p.0, (grind (arith, nat_tests), p.1))),
+  λ h. (All-head IsRead path [] h.1, λ good. let p = h.2 good in (p.0, p.1.1)),
 )
 
 pub access_is : (path : PathArg) (want : ℕ) → IsHeld path (nat_lt want 8) ↔ CanServe (op.Access path want)
 unfolding bad_path op_field path_and_want want_field
 access_is path want = (
-  λ h. (refl, λ good. let p = h good in (p.0, (grind (arith, nat_tests), p.1))),
-  λ h good. let p = h.1 good in (p.0, p.1.1),
+  λ h. (refl, one_read path h.0, λ good. let p = h.1 good in (p.0, (grind (arith, nat_tests), p.1))),
+  λ h. (All-head IsRead path [] h.1, λ good. let p = h.2 good in (p.0, p.1.1)),
 )
 
 pub truncate_is : (path : PathArg) (size : ℕ) → IsHeld path (nat_lt size (2 ^ 63)) ↔ CanServe (op.Truncate path size)
 unfolding bad_path op_field path_and_size size_field
 truncate_is path size = (
-  λ h. (refl, λ good. let p = h good in (p.0, (grind (arith, nat_tests), p.1))),
-  λ h good. let p = h.1 good in (p.0, p.1.1),
+  λ h. (refl, one_read path h.0, λ good. let p = h.1 good in (p.0, (grind (arith, nat_tests), p.1))),
+  λ h. (All-head IsRead path [] h.1, λ good. let p = h.2 good in (p.0, p.1.1)),
 )
 
 pub stat_is : (path : PathArg) → IsHeld path true ↔ CanServe (op.Stat path)
 unfolding bad_path op_field
-stat_is path = (λ h. (refl, λ good. (h good).0), λ h good. (h.1 good, refl))
+stat_is path = (λ h. (refl, one_read path h.0, λ good. (h.1 good).0), λ h. (All-head IsRead path [] h.1, λ good. (h.2 good, refl)))
 
 pub unlink_is : (path : PathArg) → IsHeld path true ↔ CanServe (op.Unlink path)
 unfolding bad_path op_field
-unlink_is path = (λ h. (refl, λ good. (h good).0), λ h good. (h.1 good, refl))
+unlink_is path = (λ h. (refl, one_read path h.0, λ good. (h.1 good).0), λ h. (All-head IsRead path [] h.1, λ good. (h.2 good, refl)))
 
 -- one thing as good as another, which is as good as a third
 pub as_good : {A B C : Type 0} → A ↔ B → B ↔ C → A ↔ C
@@ -117,3 +127,31 @@ as_good f g = (λ a. g.0 (f.0 a), λ c. f.1 (g.1 c))
 
 pub at_most : (n most : ℕ) → n ≤ most → nat_le n most ≡ true
 at_most n most h = grind (arith, nat_tests)
+
+-- ---- calls in range
+
+held_in_range : (path : PathArg) (rest : Bool) → IsPathInRange path → rest ≡ true → IsHeld path rest
+held_in_range (Good names) rest is passed = (good_held names rest).1 (path_fits names (at_most (path_bytes names) 4095 is.1) is.0, passed)
+held_in_range (Bad fault raw) rest is passed = bad_held fault raw rest is
+
+low : (n most : ℕ) → n < most → nat_lt n most ≡ true
+low n most less = grind (arith, nat_tests)
+
+served_in_range : (o : Op) → IsOpInRange o → CanServe o
+served_in_range (op.Mkdir path mode) is = (mkdir_is path mode).0 (held_in_range path (nat_lt mode 512) is.0 (low mode 512 is.1))
+served_in_range (op.Create path mode) is = (create_is path mode).0 (held_in_range path (nat_lt mode 512) is.0 (low mode 512 is.1))
+served_in_range (op.Stat path) is = (stat_is path).0 (held_in_range path true is refl)
+served_in_range (op.Access path want) is = (access_is path want).0 (held_in_range path (nat_lt want 8) is.0 (low want 8 is.1))
+served_in_range (op.Truncate path size) is = (truncate_is path size).0 (held_in_range path (nat_lt size (2 ^ 63)) is.0 (low size (2 ^ 63) is.1))
+served_in_range (op.Unlink path) is = (unlink_is path).0 (held_in_range path true is refl)
+served_in_range other is = absurd is
+
+pub call_in_range : (call : Call) → IsCallInRange call → IsCall call
+unfolding cred_field
+call_in_range call is =
+    let uid_small = is.uid in
+    let gid_small = is.gid in
+    let uid : call.cred.uid < 256 ^ 4 = omega arith in
+    let gid : call.cred.gid < 256 ^ 4 = omega arith in
+    let can = served_in_range call.op is.op in
+    record { served = can.0; read = can.1; fits = λ good. ((uid, gid), can.2 good) }

@@ -1,5 +1,5 @@
 -- A node that gathers its free calls keeps to the ranges.
-use Rattle.std.proofs.Common.{◌≡◌, ℕ, suc, ◌+◌, ◌*◌, ◌<◌, ◌≤◌, ◌^◌, nat_lt, Bool, true, false, cond, List, [], ◌∷◌, ◌++◌, length, filter, Option, Some, None, is_none, refl, ap, subst, ◌∙◌, arith}
+use Rattle.std.proofs.Common.{◌≡◌, ℕ, suc, ◌+◌, ◌<◌, ◌≤◌, ◌^◌, nat_lt, Bool, true, false, cond, List, [], ◌∷◌, ◌++◌, length, filter, Option, Some, None, is_none, refl, ap, subst, ◌∙◌, arith}
 use Rattle.std.specs.List.{filter_map, cons_option}
 use Rattle.std.specs.Option.{option_map}
 use Rattle.std.proofs.lemmas.Bool.Decides.{nat_tests}
@@ -23,7 +23,7 @@ use Rattle.fal_node.specs.State.{NodeState}
 use Rattle.fal_node.specs.Step.{node_step}
 use Rattle.fal_place.specs.Placement.{opening_table}
 use Rattle.fal_wait.specs.declared.waiting_call.WaitingCall.{WaitingCall}
-use Rattle.fal_wait.specs.Waiting.{WaitList, free_tickets, call_of}
+use Rattle.fal_wait.specs.Waiting.{WaitList, free_tickets, call_with_ticket}
 use Rattle.fal_wire.specs.Names.{key_field}
 use Rattle.fal_wire.specs.Ops.{call_field}
 use Rattle.fal_story.proofs.Lists.Each.{Each, each_join, each_both}
@@ -60,8 +60,8 @@ few_free list =
     let kept = fewer_kept (λ (w : WaitingCall). is_none w.fetch) list.calls in
     omega arith
 
-free_is : (list : WaitList) (ticket : ℕ) (w : WaitingCall) (call : Option CallRec) → call_of list ticket ≡ call
-    → option_map (λ (c : CallRec). record { ticket = ticket; call = c; fetch = None }) call ≡ Some w → call_of list ticket ≡ Some w.call
+free_is : (list : WaitList) (ticket : ℕ) (w : WaitingCall) (call : Option CallRec) → call_with_ticket list ticket ≡ call
+    → option_map (λ (c : CallRec). record { ticket = ticket; call = c; fetch = None }) call ≡ Some w → call_with_ticket list ticket ≡ Some w.call
 free_is list ticket w None there is = absurd (cc)
 free_is list ticket w (Some call) there is = there ∙ ap (λ (x : WaitingCall). Some x.call) (same_Some _ w is)
 
@@ -69,7 +69,7 @@ free_is list ticket w (Some call) there is = there ∙ ap (λ (x : WaitingCall).
 each_free : (P : CallRec → Type 0) (list : WaitList) → Each (λ (w : WaitingCall). P w.call) list.calls → Each (λ (w : WaitingCall). P w.call) (free_calls list)
 each_free P list h =
     each_mapped (λ (w : WaitingCall). P w.call) (free_call list) (free_tickets list)
-    (λ ticket w is. waiter_has P list ticket w.call (free_is list ticket w (call_of list ticket) refl is) h)
+    (λ ticket w is. waiter_has P list ticket w.call (free_is list ticket w (call_with_ticket list ticket) refl is) h)
 
 -- ---- the plan
 
@@ -149,13 +149,13 @@ batch_calls_fit list [] fits = (omega arith, tt)
 batch_calls_fit list (p ∷ plans) fits =
     let rest = batch_calls_fit list plans fits in
     let short = rest.0 in
-    elim (call_of list p.ticket) as (λ o. call_of list p.ticket ≡ o
+    elim (call_with_ticket list p.ticket) as (λ o. call_with_ticket list p.ticket ≡ o
     → (length (batch_call o p ++ batch_calls list plans) ≤ suc (length plans)) × Each (λ (q : BatchCall). call_field.Fits q.call) (batch_call o p ++ batch_calls list plans)) [
       | None ↦ λ _. (omega arith, rest.1)
       | Some call ↦ λ is. (omega arith, (waiter_of list p.ticket call is fits, rest.1))
     ] refl
 
-batch_keeps : (events : ℕ) (x : NodeState) (calls : List BatchCall) (keys : List Key) (sent : List Letter) → events < 2 ^ 63 → IsNodeRanged x → IsNodeCounted events x → x.waiting.opened ≤ 2 * events + 1
+batch_keeps : (events : ℕ) (x : NodeState) (calls : List BatchCall) (keys : List Key) (sent : List Letter) → events < 2 ^ 63 → IsNodeRanged x → IsNodeCounted events x → x.waiting.opened ≤ events + 160016
     → x.number < 16 → x.drawn ≤ 10000 → length calls ≤ 64 → Each (λ (p : BatchCall). call_field.Fits p.call) calls → Each LetterFits sent
     → KeepsRanges events (record { node = with_batch x calls keys; sent = sent; notes = [] })
 unfolding batched
@@ -165,7 +165,7 @@ batch_keeps events x [] keys sent few ranged counted opened number drawn short f
 batch_keeps events x (call ∷ calls) keys sent few ranged counted opened number drawn short fit letters =
     let more = counted_more events x counted in
     let batches = counted.batches in
-    let now : IsNodeCounted (events + 1) (batched x (call ∷ calls) keys) = record { tickets = more.tickets; items = more.items; batches = omega arith; fetches = more.fetches } in
+    let now : IsNodeCounted (events + 1) (batched x (call ∷ calls) keys) = record { tickets = more.tickets; items = more.items; batches = omega arith; operation = more.operation; fetches = more.fetches } in
     record {
       within = within events (record { node = batched x (call ∷ calls) keys; sent = sent; notes = [] }) few now letters opened number (omega arith) (omega arith);
       ranged = record {
@@ -224,7 +224,7 @@ gathered_keeps events nodes x start table here =
       items = ranged.items;
       batches = ranged.batches;
     })
-    (record { tickets = omega arith; items = counted.items; batches = counted.batches; fetches = omega arith })
+    (record { tickets = omega arith; items = counted.items; batches = counted.batches; operation = counted.operation; fetches = omega arith })
     (omega arith) small start.drawn (omega arith) calls.1
     (gather_fit x x.waiting.opened plan.sends small (omega arith) is.sends)
 

@@ -30,7 +30,7 @@ use Rattle.fal_story.proofs.Phase.{Idle, Plans, IsFor}
 use Rattle.fal_story.proofs.Ranges.Bounds.{IsRanged, IsNodeRanged, IsNodeCounted, IsRecord, Comes, ComesToClient}
 use Rattle.fal_story.proofs.Ranges.ClientRanges.{IsClient, client_of, send_keeps, get_keeps}
 use Rattle.fal_story.proofs.Ranges.Counters.{few_fetches, few_calls}
-use Rattle.fal_story.proofs.Ranges.Counts.{few_commits}
+use Rattle.fal_story.proofs.Ranges.Counts.{few_commits, few_waiting}
 use Rattle.fal_story.proofs.Ranges.DeliverRanges.{deliver_keeps}
 use Rattle.fal_story.proofs.Ranges.ExecRanges.{AreServed, exec_keeps}
 use Rattle.fal_story.proofs.Ranges.FateRanges.{sent_here}
@@ -82,8 +82,11 @@ start_of config w n h cluster there few shows ranged =
     let counted = ranged.counted n in
     let tickets = counted.tickets in
     let fetches = counted.fetches in
+    let operation = counted.operation in
     let pending = few_fetches (w.nodes n).waiting placed.tidy in
     let waiting = few_calls (w.nodes n).waiting placed.tidy in
+    let by_lanes = few_waiting config w n h shows in
+    let few_lanes = cluster.few_lanes in
     record {
       few = few;
       ranged = ranged.nodes n;

@@ -1,5 +1,5 @@
 -- A node that serves an item or releases a batch keeps to the ranges.
-use Rattle.std.proofs.Common.{◌≡◌, ℕ, ◌+◌, ◌*◌, ◌<◌, ◌≤◌, ◌^◌, true, false, cond, length, Option, Some, None, refl, subst, arith}
+use Rattle.std.proofs.Common.{◌≡◌, ℕ, ◌+◌, ◌<◌, ◌≤◌, ◌^◌, true, false, cond, length, Option, Some, None, refl, sym, subst, arith}
 use Rattle.std.specs.Prelude.{◌==◌}
 use Rattle.std.proofs.lemmas.Option.{same_Some}
 use Rattle.fal_base.specs.declared.event.Actor.TheVariants.{Node}
@@ -12,7 +12,8 @@ use Rattle.fal_node.specs.declared.event.NodeEvent.TheVariants.{Release, Serve}
 use Rattle.fal_node.specs.declared.item.Item.{Item}
 use Rattle.fal_wire.specs.declared.letter.Letter.{Letter}
 use Rattle.fal_node.specs.Letters.{Work, begun, asker_of, commits_in}
-use Rattle.fal_node.specs.Serve.{owns, can_serve, served_letters, fetch_letter, served, serve}
+use Rattle.fal_node.specs.Serve.{owns, can_serve, fetch_letter, served, serve}
+use Rattle.fal_story.proofs.Events.Enabled.{served_letters, only_sends, served_is}
 use Rattle.fal_node.specs.State.{NodeState, batch_of, item_of, without_item, released}
 use Rattle.fal_node.specs.Step.{IsWithin, node_step, release, only_if}
 use Rattle.fal_place.specs.Placement.{owner}
@@ -24,12 +25,13 @@ use Rattle.fal_story.proofs.Lists.Each.{Each}
 use Rattle.fal_story.proofs.Lists.EachAll.{all_of_each}
 use Rattle.fal_story.proofs.Lists.Members.{each_in, find_in, each_without_first}
 use Rattle.fal_story.proofs.Ranges.Bounds.{IsNodeRanged, IsNodeCounted}
+use Rattle.fal_story.proofs.Ranges.Counters.{cancelling_without}
 use Rattle.fal_story.proofs.Ranges.MessageRanges.{ask_fits, got_fits, ask_fields, found_fits}
 
 abbrev pub LetterFits : Letter → Type 0
 LetterFits letter = Fits letter.message
 
--- what is known of a node before a step, after so many events of the cluster
+-- what is known of a node before a step, after so many events of the cluster: at most 10,000 operations cancelled 16 fetches each
 pub record IsStart (events : ℕ) (x : NodeState) : Type 0 where
   pub few : events < 2 ^ 63
   pub ranged : IsNodeRanged x
@@ -37,8 +39,8 @@ pub record IsStart (events : ℕ) (x : NodeState) : Type 0 where
   pub number : x.number < 16
   pub limit : x.limit ≤ 64
   pub drawn : x.drawn ≤ 10000
-  pub opened : x.waiting.opened ≤ events
-  pub calls : length x.waiting.calls ≤ events
+  pub opened : x.waiting.opened ≤ events + 160000
+  pub calls : length x.waiting.calls ≤ 16
 
 -- the step after so many events is within the ranges, and leaves the node so
 pub record KeepsRanges (events : ℕ) (work : Work) : Type 0 where
@@ -46,7 +48,7 @@ pub record KeepsRanges (events : ℕ) (work : Work) : Type 0 where
   pub ranged : IsNodeRanged work.node
   pub counted : IsNodeCounted (events + 1) work.node
 
-pub within : (events : ℕ) (work : Work) → events < 2 ^ 63 → IsNodeCounted (events + 1) work.node → Each LetterFits work.sent → work.node.waiting.opened ≤ 2 * events + 1 → work.node.number < 16
+pub within : (events : ℕ) (work : Work) → events < 2 ^ 63 → IsNodeCounted (events + 1) work.node → Each LetterFits work.sent → work.node.waiting.opened ≤ events + 160016 → work.node.number < 16
     → work.node.drawn ≤ 20000 → commits_in work.notes ≤ 64 → IsWithin work
 within events work few counted letters opened number drawn commits =
     let tickets = counted.tickets in
@@ -68,7 +70,7 @@ counted_more events x counted =
     let items = counted.items in
     let batches = counted.batches in
     let fetches = counted.fetches in
-    record { tickets = omega arith; items = omega arith; batches = omega arith; fetches = omega arith }
+    record { tickets = omega arith; items = omega arith; batches = omega arith; operation = counted.operation; fetches = omega arith }
 
 -- nothing changes
 pub keeps_same : (events : ℕ) (x : NodeState) → IsStart events x → KeepsRanges events (begun x)
@@ -98,19 +100,21 @@ served_fit x (message.FetchAsk asker number key) ranged fits = (fetch_letter_fit
 served_fit x other ranged fits = tt
 
 served_keeps : (events : ℕ) (x : NodeState) (item : Item) → IsStart events x → FieldsFit item.message → KeepsRanges events (served x item)
-unfolding served without_item
+unfolding without_item
 served_keeps events x item start fits =
     let few = start.few in
     let drawn = start.drawn in
     let opened = start.opened in
     let ranged = start.ranged in
     let more = counted_more events x start.counted in
-    let now : IsNodeCounted (events + 1) (without_item x item.number) = record { tickets = more.tickets; items = more.items; batches = more.batches; fetches = more.fetches } in
-    record {
-      within = within events (served x item) few now (served_fit x item.message ranged fits) (omega arith) start.number (omega arith) (omega arith);
+    let left = cancelling_without (λ (i : Item). i.number == item.number) x.items in
+    let fetches = more.fetches in
+    let now : IsNodeCounted (events + 1) (without_item x item.number) = record { tickets = more.tickets; items = more.items; batches = more.batches; operation = more.operation; fetches = omega arith } in
+    subst (KeepsRanges events) (sym (served_is x item)) (record {
+      within = within events (only_sends x item) few now (served_fit x item.message ranged fits) (omega arith) start.number (omega arith) (omega arith);
       ranged = record { rows = ranged.rows; replica = ranged.replica; waiting = ranged.waiting; items = each_without_first _ _ x.items ranged.items; batches = ranged.batches };
       counted = now;
-    }
+    })
 
 serve_found : (events : ℕ) (x : NodeState) (item : Option Item) (work : Work) → IsStart events x → ((i : Item) → item ≡ Some i → FieldsFit i.message) → serve x item ≡ Some work → KeepsRanges events work
 serve_found events x None work start fits is = absurd (cc)
@@ -136,7 +140,7 @@ released_keeps events x number start =
     let opened = start.opened in
     let ranged = start.ranged in
     let more = counted_more events x start.counted in
-    let now : IsNodeCounted (events + 1) (released x number) = record { tickets = more.tickets; items = more.items; batches = more.batches; fetches = more.fetches } in
+    let now : IsNodeCounted (events + 1) (released x number) = record { tickets = more.tickets; items = more.items; batches = more.batches; operation = more.operation; fetches = more.fetches } in
     record {
       within = within events (begun (released x number)) few now tt (omega arith) start.number (omega arith) (omega arith);
       ranged = record { rows = ranged.rows; replica = ranged.replica; waiting = ranged.waiting; items = ranged.items; batches = each_without_first _ _ x.batches ranged.batches };

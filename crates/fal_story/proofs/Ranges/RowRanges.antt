@@ -16,13 +16,13 @@ use Rattle.fal_base.specs.declared.reply.Errno.TheVariants.{Eacces, Eexist, Eisd
 use Rattle.fal_base.specs.declared.reply.Reply.TheVariants.{Fine, Fail, Stat}
 use Rattle.fal_base.specs.Change.{new_row}
 use Rattle.fal_base.specs.Tree.{Tree, row_at}
-use Rattle.fal_base.specs.Walk.{is_dir, grants}
+use Rattle.fal_base.specs.Walk.{is_dir, grants, kept_grants}
 use Rattle.fal_base.proofs.Maps.{put_cases, removed_cases}
 use Rattle.fal_exec.specs.declared.outcome.Change.{Change}
 use Rattle.fal_exec.specs.declared.outcome.Change.TheVariants.{Keep, Put, Remove}
 use Rattle.fal_exec.specs.declared.outcome.ExecOut.{ExecOut}
 use Rattle.fal_exec.specs.declared.outcome.ExecOut.TheVariants.{Finish, Opened, PassOn}
-use Rattle.fal_exec.specs.Outcome.{kept, found, checked, parent_grants, access_outcome, truncate_outcome, unlink_outcome, outcome_of}
+use Rattle.fal_exec.specs.Outcome.{without_change, where_found, unless_refused, access_outcome, truncate_outcome, unlink_outcome, outcome_of}
 use Rattle.fal_node.specs.declared.batch.BatchCall.{BatchCall}
 use Rattle.fal_node.specs.Exec.{number_after, call_outcome, rows_after}
 use Rattle.fal_wire.specs.Numbers.{ino_field, mode_field, size_field, cred_field}
@@ -101,38 +101,38 @@ IsOutRanged (Finish reply change) = reply_field.Fits reply × ChangeFits change
 IsOutRanged (Opened ino) = ⊥
 IsOutRanged PassOn = ⊥
 
-failed : (errno : Errno) → IsOutRanged (kept (Fail errno))
+failed : (errno : Errno) → IsOutRanged (without_change (Fail errno))
 failed errno = (fail_fits errno, tt)
 
-checked_ranged : (checks : List (Bool × Errno)) (out : ExecOut) → IsOutRanged out → IsOutRanged (checked checks out)
+checked_ranged : (checks : List (Bool × Errno)) (out : ExecOut) → IsOutRanged out → IsOutRanged (unless_refused checks out)
 checked_ranged [] out h = h
 checked_ranged (check ∷ checks) out h =
-    elim check.0 as (λ b. IsOutRanged (cond b (kept (Fail check.1)) (checked checks out))) [ true ↦ failed check.1 | false ↦ checked_ranged checks out h ]
+    elim check.0 as (λ b. IsOutRanged (cond b (without_change (Fail check.1)) (unless_refused checks out))) [ true ↦ failed check.1 | false ↦ checked_ranged checks out h ]
 
-found_ranged : (row : Option Inode) (go : Inode → ExecOut) → ((inode : Inode) → row ≡ Some inode → IsOutRanged (go inode)) → IsOutRanged (found row go)
+found_ranged : (row : Option Inode) (go : Inode → ExecOut) → ((inode : Inode) → row ≡ Some inode → IsOutRanged (go inode)) → IsOutRanged (where_found row go)
 found_ranged None go h = failed _
 found_ranged (Some inode) go h = h inode refl
 
 outcome_ranged : (row : Option Inode) (parent : Option Dentry) (cred : Cred) (o : Op) (fresh : ℕ) → ((inode : Inode) → row ≡ Some inode → inode_field.Fits inode)
     → is_served o ≡ true → cred_field.Fits cred → op_field.Fits o → ino_field.Fits fresh → IsOutRanged (outcome_of row parent cred o fresh)
 outcome_ranged row parent cred (op.Mkdir path mode) fresh rows served of_cred of_op of_fresh =
-    checked_ranged ((is_some row, Eexist) ∷ (not (parent_grants cred 2 parent), Eacces) ∷ []) (Finish Fine (Put (new_row cred Dir mode fresh))) (fine_fits, new_fits cred Dir mode fresh of_cred (mkdir_mode path mode of_op) of_fresh)
+    checked_ranged ((is_some row, Eexist) ∷ (not (kept_grants cred 2 parent), Eacces) ∷ []) (Finish Fine (Put (new_row cred Dir mode fresh))) (fine_fits, new_fits cred Dir mode fresh of_cred (mkdir_mode path mode of_op) of_fresh)
 outcome_ranged row parent cred (op.Create path mode) fresh rows served of_cred of_op of_fresh =
-    checked_ranged ((is_some row, Eexist) ∷ (not (parent_grants cred 2 parent), Eacces) ∷ []) (Finish Fine (Put (new_row cred File mode fresh))) (fine_fits, new_fits cred File mode fresh of_cred (create_mode path mode of_op) of_fresh)
-outcome_ranged row parent cred (op.Stat path) fresh rows served of_cred of_op of_fresh = found_ranged row (λ inode. kept (Stat inode)) (λ inode is. (stat_fits inode (rows inode is), tt))
+    checked_ranged ((is_some row, Eexist) ∷ (not (kept_grants cred 2 parent), Eacces) ∷ []) (Finish Fine (Put (new_row cred File mode fresh))) (fine_fits, new_fits cred File mode fresh of_cred (create_mode path mode of_op) of_fresh)
+outcome_ranged row parent cred (op.Stat path) fresh rows served of_cred of_op of_fresh = found_ranged row (λ inode. without_change (Stat inode)) (λ inode is. (stat_fits inode (rows inode is), tt))
 outcome_ranged row parent cred (op.Access path want) fresh rows served of_cred of_op of_fresh =
-    found_ranged row (access_outcome cred want) (λ inode is. checked_ranged ((not (grants cred want inode), Eacces) ∷ []) (kept Fine) (fine_fits, tt))
+    found_ranged row (access_outcome cred want) (λ inode is. checked_ranged ((not (grants cred want inode), Eacces) ∷ []) (without_change Fine) (fine_fits, tt))
 outcome_ranged row parent cred (op.Truncate path size) fresh rows served of_cred of_op of_fresh =
     found_ranged row (truncate_outcome cred size)
     (λ inode is. checked_ranged ((is_dir inode, Eisdir) ∷ (not (grants cred 2 inode), Eacces) ∷ []) (Finish Fine (Put (record inode { size = size }))) (fine_fits, sized_fits inode size (rows inode is) (truncate_size path size of_op)))
 outcome_ranged row parent cred (op.Unlink path) fresh rows served of_cred of_op of_fresh =
-    found_ranged row (unlink_outcome parent cred) (λ inode is. checked_ranged ((not (parent_grants cred 2 parent), Eacces) ∷ (is_dir inode, Eperm) ∷ []) (Finish Fine Remove) (fine_fits, tt))
+    found_ranged row (unlink_outcome parent cred) (λ inode is. checked_ranged ((not (kept_grants cred 2 parent), Eacces) ∷ (is_dir inode, Eperm) ∷ []) (Finish Fine Remove) (fine_fits, tt))
 outcome_ranged row parent cred other fresh rows served of_cred of_op of_fresh = absurd (cc)
 
 pub call_ranged : (node : ℕ) (rows : Tree) (drawn : ℕ) (x : BatchCall) → AreRowsRanged rows → is_served x.call.op ≡ true → call_field.Fits x.call → ino_field.Fits (number_after node drawn)
     → IsOutRanged (call_outcome node rows drawn x)
 call_ranged node rows drawn x ranged served fits fresh =
-    elim x.denied as (λ b. IsOutRanged (cond b (kept (Fail Eacces)) (outcome_of (row_at rows x.last) x.parent x.call.cred x.call.op (number_after node drawn)))) [
+    elim x.denied as (λ b. IsOutRanged (cond b (without_change (Fail Eacces)) (outcome_of (row_at rows x.last) x.parent x.call.cred x.call.op (number_after node drawn)))) [
       | true ↦ failed Eacces
       | false ↦ outcome_ranged (row_at rows x.last) x.parent x.call.cred x.call.op (number_after node drawn) (λ inode is. ranged x.last inode is) served (cred_of_call x.call fits) (op_of_call x.call fits) fresh
     ]

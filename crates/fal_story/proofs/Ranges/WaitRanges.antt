@@ -11,7 +11,7 @@ use Rattle.fal_node.specs.Deliver.{without_calls}
 use Rattle.fal_node.specs.Gather.{with_fetches}
 use Rattle.fal_wait.specs.declared.waiting_call.WaitingCall.{WaitingCall}
 use Rattle.fal_wait.specs.Lists.{has_number}
-use Rattle.fal_wait.specs.Waiting.{WaitList, call_of, fetch_of, is_new, with_call, after_admit, without_call, on_fetch, after_open, waits_on, off_fetch, without_fetch, settled_by, after_settle}
+use Rattle.fal_wait.specs.Waiting.{WaitList, call_with_ticket, fetch_of, is_new, with_call, after_admit, without_call, on_fetch, after_open, waits_on, off_fetch, without_fetch, settled_by, after_settle}
 use Rattle.fal_wire.specs.Ops.{call_field}
 use Rattle.fal_story.proofs.Lists.Each.{Each, each_weaker, each_join}
 use Rattle.fal_story.proofs.Lists.Members.{each_in, each_map, find_in, each_without_first}
@@ -59,10 +59,10 @@ call_found None call is = absurd (cc)
 call_found (Some w) call is = (w, refl, same_Some w.call call is)
 
 -- what holds of each call that waits holds of the call of a ticket
-pub waiter_has : (P : CallRec → Type 0) (list : WaitList) (ticket : ℕ) (call : CallRec) → call_of list ticket ≡ Some call → Each (λ (w : WaitingCall). P w.call) list.calls → P call
+pub waiter_has : (P : CallRec → Type 0) (list : WaitList) (ticket : ℕ) (call : CallRec) → call_with_ticket list ticket ≡ Some call → Each (λ (w : WaitingCall). P w.call) list.calls → P call
 waiter_has P list ticket call is h =
     let x = call_found (find (λ (w : WaitingCall). w.ticket == ticket) list.calls) call is in
     subst P x.2 (each_in (λ (w : WaitingCall). P w.call) list.calls x.0 h (find_in (λ (w : WaitingCall). w.ticket == ticket) list.calls x.0 x.1).1)
 
-pub waiter_of : (list : WaitList) (ticket : ℕ) (call : CallRec) → call_of list ticket ≡ Some call → WaitersFit list → call_field.Fits call
+pub waiter_of : (list : WaitList) (ticket : ℕ) (call : CallRec) → call_with_ticket list ticket ≡ Some call → WaitersFit list → call_field.Fits call
 waiter_of list ticket call is h = waiter_has (λ c. call_field.Fits c) list ticket call is h

@@ -19,11 +19,11 @@ use Rattle.fal_story.proofs.Steps.Carried.{dropped_good, dropped_none, shut_good
 use Rattle.fal_story.proofs.Steps.Posted.{posted_good}
 use Rattle.fal_story.proofs.Steps.Reads.{read_locked}
 use Rattle.fal_story.proofs.Trees.Laid.{owned}
-use Rattle.fal_story.proofs.Trees.Standing.{SomeUnder}
 use Rattle.fal_story.proofs.View.{IsPosted, post, View, Kept, Work, Rests, Walks, Locks, Counts, Ends, now}
 use Rattle.fal_story.specs.World.{put}
 use Rattle.fal_base.specs.Tree.{row_at}
 use Rattle.fal_base.specs.Maps.{value_at}
+use Rattle.fal_base.proofs.Entries.{SomeUnder}
 
 -- a Lock that is newer than the last is that of the operation, and comes to a node
 pub lock_comes : (config : Config) (v : View) (e p o n : ℕ) (keys : List Key) → IsPosted v.posts e (Node n) p (message.Lock o keys) → v.op.last n < o → Good config v → (n < config.nodes) × (o ≡ v.op.operation) × LocksKeys v.op.work keys

@@ -1,5 +1,5 @@
 -- The steps of an operation, from its start to its end.
-use Rattle.std.proofs.Common.{◌≡◌, ◌⊎◌, ℕ, ◌+◌, ◌<◌, true, false, not, cond, List, [], ◌∷◌, ◌++◌, Some, None, refl, sym, ap, ◌∙◌, subst, IsSomeAnd}
+use Rattle.std.proofs.Common.{◌≡◌, ◌⊎◌, ℕ, ◌+◌, ◌<◌, true, false, not, cond, List, [], ◌∷◌, ◌++◌, Option, Some, None, refl, sym, ap, ◌∙◌, subst, IsSomeAnd}
 use Rattle.std.specs.List.{All}
 use Rattle.std.specs.Prelude.{slice_get}
 use Rattle.std.specs.FinMap.Entries.{find-where_key}
@@ -14,19 +14,20 @@ use Rattle.fal_base.proofs.Order.{same_of_tied}
 use Rattle.fal_base.specs.Tree.{key_cmp, row_at}
 use Rattle.fal_dentry.specs.Walk.{Dentries, is_among, without_keys}
 use Rattle.fal_node.specs.Exec.{is_making}
+use Rattle.fal_wire.specs.declared.message.Message.{Message}
 use Rattle.fal_wire.specs.declared.message.Message.TheVariants as message
 use Rattle.fal_story.proofs.Families.Asking.{asking_put}
 use Rattle.fal_story.proofs.Families.Clear.{clear_dropped, clear_put, clear_shut}
 use Rattle.fal_story.proofs.Families.Ground.{ground_dropped}
 use Rattle.fal_story.proofs.Families.Lanes.{IsRight, lanes_put, positive}
-use Rattle.fal_story.proofs.Families.Operation.{IsKept, numbers_below, rows_of, shut_by, IsCounted}
+use Rattle.fal_story.proofs.Families.Operation.{Operation, IsKept, numbers_below, rows_of, shut_by, IsCounted}
 use Rattle.fal_story.proofs.Families.Plans.{plans_put}
 use Rattle.fal_story.proofs.Families.Records.{records_moved}
 use Rattle.fal_story.proofs.Families.Script.{script_moved}
 use Rattle.fal_story.proofs.Families.Stages.{operation_started, operation_locking, operation_given_up, operation_shut, operation_heard, operation_done, operation_rested, operation_counting, operation_counted, without_node}
 use Rattle.fal_story.proofs.Good.{Good}
 use Rattle.fal_story.proofs.Phase.{Runs, Tells, Replies, IsCrossing, IsHeld, IsPast, goes_put, held_live, held_taken, stays_put}
-use Rattle.fal_story.proofs.View.{View, Kept, Rests, Walks, Locks, Ends, now, Counts}
+use Rattle.fal_story.proofs.View.{View, Work, Kept, Rests, Walks, Locks, Ends, now, Counts}
 use Rattle.fal_story.specs.World.{put}
 
 module _ (config : Config) (v : View) where
@@ -57,11 +58,13 @@ module _ (config : Config) (v : View) where
     operation = g.operation;
   }
 
-  -- ---- an operation is started
+  -- ---- an operation is started, or goes on
 
-  pub started_good : (l : ℕ) → v.op.work ≡ Rests → (IsPast (v.phase l) → ⊥) → Good config v
-      → Good config (record v { op = record v.op { operation = v.op.operation + 1; work = Walks l; starts = v.op.starts ++ (l, v.seq l) ∷ [] } })
-  started_good l rests waits g = record {
+  -- what the operation alone reads changes, and nothing else
+  pub operated_good : {queued : ℕ → Option Message} {last : ℕ → ℕ} {operation : ℕ} {work : Work} {starts : List (ℕ × ℕ)}
+      → Operation config.nodes v.map.table v.op.shut queued last v.op.due operation work starts (v.fetches 255) v.posts v.commits v.seq v.call v.phase → Good config v
+      → Good config (record v { op = record v.op { queued = queued; last = last; operation = operation; work = work; starts = starts } })
+  operated_good goes g = record {
     ground = g.ground;
     clear = g.clear;
     asking = g.asking;
@@ -69,9 +72,12 @@ module _ (config : Config) (v : View) where
     lanes = g.lanes;
     script = g.script;
     records = g.records;
-    operation = operation_started g.operation l rests waits
-        (positive g.lanes l (λ idle. waits (subst IsPast (sym idle) tt)));
+    operation = goes;
   }
+
+  pub started_good : (l : ℕ) → v.op.work ≡ Rests → (IsPast (v.phase l) → ⊥) → Good config v
+      → Good config (record v { op = record v.op { operation = v.op.operation + 1; work = Walks l; starts = v.op.starts ++ (l, v.seq l) ∷ [] } })
+  started_good l rests waits g = operated_good (operation_started g.operation l rests waits (positive g.lanes l (λ idle. waits (subst IsPast (sym idle) tt)))) g
 
   -- ---- its walks are done
 
@@ -127,68 +133,23 @@ module _ (config : Config) (v : View) where
 
   pub locked_good : (n l : ℕ) (keys : List Key) (walks : List Kept) (missing : List ℕ) (rows given : List Update) → v.op.work ≡ Locks l keys walks missing rows → v.op.shut n ≡ shut_by v.op.operation keys → given ≡ rows_of v.map.table (now v) n keys → Good config v
       → Good config (record v { op = record v.op { work = Locks l keys walks (without_node n missing) (rows ++ given) } })
-  locked_good n l keys walks missing rows given is has told g = record {
-    ground = g.ground;
-    clear = g.clear;
-    asking = g.asking;
-    plans = g.plans;
-    lanes = g.lanes;
-    script = g.script;
-    records = g.records;
-    operation = operation_heard g.operation n l keys walks missing rows given is has told;
-  }
+  locked_good n l keys walks missing rows given is has told g = operated_good (operation_heard g.operation n l keys walks missing rows given is has told) g
 
   pub done_good : (n : ℕ) (keys : List Key) (updates : List Update) (missing : List ℕ) → v.op.work ≡ Ends keys updates missing → v.op.shut n ≡ None → Good config v
       → Good config (record v { op = record v.op { work = Ends keys updates (without_node n missing) } })
-  done_good n keys updates missing is laid g = record {
-    ground = g.ground;
-    clear = g.clear;
-    asking = g.asking;
-    plans = g.plans;
-    lanes = g.lanes;
-    script = g.script;
-    records = g.records;
-    operation = operation_done g.operation n keys updates missing is laid;
-  }
+  done_good n keys updates missing is laid g = operated_good (operation_done g.operation n keys updates missing is laid) g
 
   pub rested_good : (keys : List Key) (updates : List Update) → v.op.work ≡ Ends keys updates [] → Good config v → Good config (record v { op = record v.op { work = Rests } })
-  rested_good keys updates is g = record {
-    ground = g.ground;
-    clear = g.clear;
-    asking = g.asking;
-    plans = g.plans;
-    lanes = g.lanes;
-    script = g.script;
-    records = g.records;
-    operation = operation_rested g.operation keys updates is;
-  }
+  rested_good keys updates is g = operated_good (operation_rested g.operation keys updates is) g
 
   -- ---- rows under a directory are counted
 
   pub counting_good : (l : ℕ) (keys : List Key) (walks : List Kept) (rows : List Update) (dir : ℕ) (updates : List Update) → v.op.work ≡ Locks l keys walks [] rows
       → (key : Key) → is_among key keys ≡ true → IsSomeAnd (row_at (now v) key) (λ (r : Inode). r.ino ≡ dir) → Good config v
       → Good config (record v { op = record v.op { work = Counts l keys walks (numbers_below config.nodes) rows dir updates 0 } })
-  counting_good l keys walks rows dir updates is key among there g = record {
-    ground = g.ground;
-    clear = g.clear;
-    asking = g.asking;
-    plans = g.plans;
-    lanes = g.lanes;
-    script = g.script;
-    records = g.records;
-    operation = operation_counting g.operation l keys walks rows dir updates is g.ground.lives key among there;
-  }
+  counting_good l keys walks rows dir updates is key among there g = operated_good (operation_counting g.operation l keys walks rows dir updates is g.ground.lives key among there) g
 
   pub counted_good : (n number l : ℕ) (keys : List Key) (walks : List Kept) (missing : List ℕ) (rows : List Update) (dir : ℕ) (updates : List Update) (sum : ℕ) → v.op.work ≡ Counts l keys walks missing rows dir updates sum
       → IsCounted v.map.table (now v) n dir number → Good config v
       → Good config (record v { op = record v.op { work = Counts l keys walks (without_node n missing) rows dir updates (sum + number) } })
-  counted_good n number l keys walks missing rows dir updates sum is counted g = record {
-    ground = g.ground;
-    clear = g.clear;
-    asking = g.asking;
-    plans = g.plans;
-    lanes = g.lanes;
-    script = g.script;
-    records = g.records;
-    operation = operation_counted g.operation n number l keys walks missing rows dir updates sum is counted;
-  }
+  counted_good n number l keys walks missing rows dir updates sum is counted g = operated_good (operation_counted g.operation n number l keys walks missing rows dir updates sum is counted) g

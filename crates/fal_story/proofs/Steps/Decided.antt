@@ -14,6 +14,8 @@ use Rattle.fal_base.specs.Change.{makes}
 use Rattle.fal_base.specs.Commits.{Commit, tree_at}
 use Rattle.fal_base.specs.Maps.{value_at}
 use Rattle.fal_base.specs.Tree.{row_at}
+use Rattle.fal_base.specs.Updates.{laid, keys_of}
+use Rattle.fal_base.proofs.Updates.{laid_off}
 use Rattle.fal_dentry.specs.Walk.{is_among}
 use Rattle.fal_story.proofs.Families.Asking.{IsCrossed, asking_committed, asking_put}
 use Rattle.fal_story.proofs.Families.Clear.{IsShut, clear_put}
@@ -29,7 +31,7 @@ use Rattle.fal_story.proofs.Lists.Grown.{slice_get_snoc, slice_get_end, tells}
 use Rattle.fal_story.proofs.Phase.{Idle, Runs, Tells, Replies, IsCrossing, IsUnanswered, IsTaken, goes_put, stays_put, taken_live}
 use Rattle.fal_story.proofs.Trees.Changed.{IsChanged}
 use Rattle.fal_story.proofs.Trees.Commits.{longer, tree_at_front, tree_now_snoc, legal_snoc}
-use Rattle.fal_story.proofs.Trees.Laid.{laid, laid_off, keys_of, owned}
+use Rattle.fal_story.proofs.Trees.Laid.{owned}
 use Rattle.fal_story.proofs.Trees.Standing.{tree_now}
 use Rattle.fal_story.proofs.View.{Asking, View, Ends, now}
 use Rattle.fal_story.specs.World.{put}

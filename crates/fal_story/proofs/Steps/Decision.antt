@@ -14,6 +14,7 @@ use Rattle.fal_base.specs.Change as tree
 use Rattle.fal_base.specs.Change.{makes}
 use Rattle.fal_base.specs.Maps.{value_at}
 use Rattle.fal_base.specs.Tree.{row_at}
+use Rattle.fal_base.specs.Updates.{laid, keys_of}
 use Rattle.fal_dentry.specs.Walk.{is_among, without_keys}
 use Rattle.fal_wire.specs.declared.message.Message.{Message}
 use Rattle.fal_wire.specs.declared.message.Message.TheVariants as message
@@ -25,7 +26,7 @@ use Rattle.fal_story.proofs.Phase.{Tells, Replies}
 use Rattle.fal_story.proofs.Steps.Carried.{dropped_good, dropped_none, locked_good}
 use Rattle.fal_story.proofs.Steps.Decided.{decided_commit, decided_good}
 use Rattle.fal_story.proofs.Steps.Posted.{IsFine, posted_good}
-use Rattle.fal_story.proofs.Trees.Laid.{laid, keys_of, owned}
+use Rattle.fal_story.proofs.Trees.Laid.{owned}
 use Rattle.fal_story.proofs.View.{Post, post, View, Kept, Locks, Ends, now}
 use Rattle.fal_story.specs.World.{put}
 

@@ -16,8 +16,9 @@ use Rattle.fal_base.specs.Answer.{answer}
 use Rattle.fal_base.specs.Change as tree
 use Rattle.fal_base.specs.Change.{makes}
 use Rattle.fal_base.specs.Commits.{Commit, tree_at}
-use Rattle.fal_base.specs.Walk.{Ready}
+use Rattle.fal_base.specs.Walk.{Ready, walk}
 use Rattle.fal_base.specs.Tree.{Tree, row_at}
+use Rattle.fal_base.specs.Updates.{laid_at, keys_of}
 use Rattle.fal_exec.proofs.InTrees.{in_trees}
 use Rattle.fal_exec.proofs.Stopped.{stopped_answer, stopped_makes}
 use Rattle.fal_exec.specs.declared.outcome.Change.{Change}
@@ -26,6 +27,7 @@ use Rattle.fal_exec.specs.declared.outcome.ExecOut.TheVariants as out
 use Rattle.fal_exec.specs.Executed.{IsExecuted, IsFinished, IsRowPart, is_directory}
 use Rattle.fal_exec.specs.Outcome.{outcome_of}
 use Rattle.fal_exec.specs.RowCall.{row_names}
+use Rattle.fal_dentry.proofs.UnderWay.{no_parent, under_number}
 use Rattle.fal_dentry.specs.TreeWalk.{way}
 use Rattle.fal_dentry.specs.Walk.{is_among}
 use Rattle.fal_place.specs.Placement.{owner}
@@ -48,10 +50,9 @@ use Rattle.fal_story.proofs.Steps.Reads.{none_due, read_row, not_true}
 use Rattle.fal_story.proofs.Trees.Changed.{IsChanged}
 use Rattle.fal_story.proofs.Trees.CommitRows.{changed_at, change_noted, noted_made, noted_none, IsChangedAt, row_left}
 use Rattle.fal_story.proofs.Trees.Commits.{longer, IsNewNumber, tree_at_front, tree_now_snoc, legal_snoc}
-use Rattle.fal_story.proofs.Trees.Laid.{laid_at, keys_of}
 use Rattle.fal_story.proofs.Trees.Numbers.{numbers_differ, numbers_some}
 use Rattle.fal_story.proofs.Trees.Standing.{tree_now}
-use Rattle.fal_story.proofs.Trees.Under.{IsUnderWay, all_among, under_way as under_way_of}
+use Rattle.fal_story.proofs.Trees.Among.{all_among}
 use Rattle.fal_story.proofs.View.{View, Work, Rests, Walks, Locks, Counts, Ends, now}
 use Rattle.fal_story.specs.World.{put}
 
@@ -289,15 +290,14 @@ module _ (config : Config) (v : View) (l n : ℕ) (x : BatchCall) (reply : Reply
   not_under dir locked shut is_dir under =
       let r = some_of (row_at (now v) locked) (λ (r : Inode). r.ino ≡ dir) is_dir in
       let plan = planned_here config v l n x false is ready g in
-      let way_there = subst (IsUnderWay (now v) call.cred (way (now v) call.cred plan.0)) plan.1.1.0.1.1 (under_way_of (now v) call.cred plan.0) in
-      by_parent plan.1.1.0.0 r.0 r.1.0 (under ∙ sym r.1.1) plan.0 plan.1.1.1 plan.1.1.0.1.0 way_there
+      by_parent plan.1.1.0.0 r.0 r.1.0 (under ∙ sym r.1.1) plan.0 plan.1.1.1 plan.1.1.0.1.0 plan.1.1.0.1.1
     where
       by_parent : (d : Option Inode) (r : Inode) → row_at (now v) locked ≡ Some r → x.last.parent ≡ r.ino → (names : List (List ℕ)) → All (IsCrossed (v.op.crossed l)) (way (now v) call.cred names) → (passed : List ℕ)
-          → IsUnderWay (now v) call.cred (way (now v) call.cred names) (Ready d passed x.last) → ⊥
-      by_parent None r row same names all passed there = numbers_some v.commits g.script.commits.legal locked r row (sym there ∙ same)
-      by_parent (Some dir) r row same names all passed there =
-          let one : there.1.0 ≡ locked = numbers_differ v.commits g.script.commits.legal there.1.0 locked dir r there.1.2 row (sym there.0 ∙ same) in
-          g.clear.ways l n there.1.0 (subst (IsCrossing n) (sym is) refl) (all_among (IsCrossed (v.op.crossed l)) (way (now v) call.cred names) there.1.0 all there.1.1) (subst (IsShut (v.op.shut n)) (sym one) shut)
+          → walk (now v) call.cred names ≡ Ready d passed x.last → ⊥
+      by_parent None r row same names all passed ready = numbers_some v.commits g.script.commits.legal locked r row (sym (no_parent (now v) call.cred names passed x.last ready) ∙ same)
+      by_parent (Some dir) r row same names all passed ready =
+          let among = under_number (now v) call.cred names dir passed x.last locked r (numbers_differ v.commits g.script.commits.legal) ready row same in
+          g.clear.ways l n locked (subst (IsCrossing n) (sym is) refl) (all_among (IsCrossed (v.op.crossed l)) (way (now v) call.cred names) locked all among) shut
 
   under_at : (work : Work) → v.op.work ≡ work → IsUnder (now v) (tree_now grown) work
   under_at Rests same = tt

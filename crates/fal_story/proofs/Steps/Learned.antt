@@ -1,10 +1,9 @@
 -- A replica has one more directory, which stands there and is not shut.
-use Rattle.std.proofs.Common.{◌≡◌, ◌⊎◌, ℕ, ◌<◌, []}
+use Rattle.std.proofs.Common.{◌≡◌, ◌⊎◌, ℕ, ◌<◌}
 use Rattle.fal_base.specs.declared.call.Config.{Config}
 use Rattle.fal_base.specs.declared.inode.Dentry.{Dentry}
 use Rattle.fal_base.specs.declared.key.Key.{Key}
 use Rattle.fal_base.specs.Maps.{with_value}
-use Rattle.fal_wire.specs.declared.message.Message.TheVariants as message
 use Rattle.fal_story.proofs.Families.Clear.{IsShut, clear_learned}
 use Rattle.fal_story.proofs.Families.Ground.{ground_learned}
 use Rattle.fal_story.proofs.Good.{Good}

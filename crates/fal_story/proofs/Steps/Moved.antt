@@ -1,9 +1,8 @@
 -- Calls move from one place to another.
-use Rattle.std.proofs.Common.{◌≡◌, ◌≢◌, ◌⊎◌, inl, inr, ⊎_elim, ℕ, ◌<◌, List, [], Some, None, sym, ◌∙◌, subst}
+use Rattle.std.proofs.Common.{◌≡◌, ◌≢◌, ◌⊎◌, inl, inr, ⊎_elim, ℕ, ◌<◌, List, Some, None, sym, ◌∙◌, subst}
 use Rattle.std.specs.Prelude.{slice_get}
 use Rattle.fal_base.specs.declared.call.Config.{Config}
 use Rattle.fal_base.specs.declared.key.Key.{Key}
-use Rattle.fal_wire.specs.declared.message.Message.TheVariants as message
 use Rattle.fal_story.proofs.Families.Asking.{IsCrossed, asking_moved}
 use Rattle.fal_story.proofs.Families.Clear.{IsShut, clear_moved}
 use Rattle.fal_story.proofs.Families.Lanes.{IsRight, lanes_moved}

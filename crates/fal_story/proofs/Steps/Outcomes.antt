@@ -12,13 +12,13 @@ use Rattle.fal_base.specs.declared.reply.Errno.TheVariants.{Eacces, Eexist, Eisd
 use Rattle.fal_base.specs.declared.reply.Reply.{Reply}
 use Rattle.fal_base.specs.declared.reply.Reply.TheVariants.{Fine, Fail, Stat}
 use Rattle.fal_base.specs.Change.{new_row}
-use Rattle.fal_base.specs.Walk.{is_dir, grants}
+use Rattle.fal_base.specs.Walk.{is_dir, grants, kept_grants}
 use Rattle.fal_exec.specs.declared.outcome.Change.{Change}
 use Rattle.fal_exec.specs.declared.outcome.Change.TheVariants as change
 use Rattle.fal_exec.specs.declared.outcome.ExecOut.{ExecOut}
 use Rattle.fal_exec.specs.declared.outcome.ExecOut.TheVariants as out
 use Rattle.fal_exec.specs.Executed.{is_directory}
-use Rattle.fal_exec.specs.Outcome.{outcome_of, kept, found, checked, parent_grants, make_outcome, access_outcome, truncate_outcome, unlink_outcome}
+use Rattle.fal_exec.specs.Outcome.{outcome_of, without_change, where_found, unless_refused, make_outcome, access_outcome, truncate_outcome, unlink_outcome}
 use Rattle.fal_node.specs.Exec.{is_making}
 use Rattle.fal_story.specs.Clusters.{is_served}
 
@@ -27,33 +27,33 @@ use Rattle.fal_story.specs.Clusters.{is_served}
 abbrev pub IsDone : ExecOut → Type 0
 IsDone o = (reply : Reply) × ((ch : Change) × (o ≡ out.Finish reply ch))
 
-done_kept : (reply : Reply) → IsDone (kept reply)
+done_kept : (reply : Reply) → IsDone (without_change reply)
 done_kept reply = (reply, (change.Keep, refl))
 
 -- what holds of the answer to a check that fails, and of what comes after them all
-checked_ends : (Q : ExecOut → Type 0) → ((errno : Errno) → Q (kept (Fail errno))) → (checks : List (Bool × Errno)) (o : ExecOut) → Q o → Q (checked checks o)
+checked_ends : (Q : ExecOut → Type 0) → ((errno : Errno) → Q (without_change (Fail errno))) → (checks : List (Bool × Errno)) (o : ExecOut) → Q o → Q (unless_refused checks o)
 checked_ends Q fails [] o is = is
-checked_ends Q fails (check ∷ checks) o is = elim check.0 as (λ b. Q (cond b (kept (Fail check.1)) (checked checks o))) [ true ↦ fails check.1 | false ↦ checked_ends Q fails checks o is ]
+checked_ends Q fails (check ∷ checks) o is = elim check.0 as (λ b. Q (cond b (without_change (Fail check.1)) (unless_refused checks o))) [ true ↦ fails check.1 | false ↦ checked_ends Q fails checks o is ]
 
-done_checked : (checks : List (Bool × Errno)) (o : ExecOut) → IsDone o → IsDone (checked checks o)
+done_checked : (checks : List (Bool × Errno)) (o : ExecOut) → IsDone o → IsDone (unless_refused checks o)
 done_checked checks o is = checked_ends IsDone (λ errno. done_kept (Fail errno)) checks o is
 
-done_found : (row : Option Inode) (go : Inode → ExecOut) → ((inode : Inode) → IsDone (go inode)) → IsDone (found row go)
+done_found : (row : Option Inode) (go : Inode → ExecOut) → ((inode : Inode) → IsDone (go inode)) → IsDone (where_found row go)
 done_found None go is = done_kept (Fail Enoent)
 done_found (Some inode) go is = is inode
 
 done_made : (row : Option Inode) (parent : Option Dentry) (cred : Cred) (made : Inode) → IsDone (make_outcome row parent cred made)
-done_made row parent cred made = done_checked ((is_some row, Eexist) ∷ (not (parent_grants cred 2 parent), Eacces) ∷ []) (out.Finish Fine (change.Put made)) (Fine, (change.Put made, refl))
+done_made row parent cred made = done_checked ((is_some row, Eexist) ∷ (not (kept_grants cred 2 parent), Eacces) ∷ []) (out.Finish Fine (change.Put made)) (Fine, (change.Put made, refl))
 
 pub outcome_done : (row : Option Inode) (parent : Option Dentry) (cred : Cred) (call : Op) (fresh : ℕ) → IsTrue (is_served call) → IsDone (outcome_of row parent cred call fresh)
 outcome_done row parent cred (op.Mkdir path mode) fresh served = done_made row parent cred (new_row cred Dir mode fresh)
 outcome_done row parent cred (op.Create path mode) fresh served = done_made row parent cred (new_row cred File mode fresh)
-outcome_done row parent cred (op.Stat path) fresh served = done_found row (λ inode. kept (Stat inode)) (λ inode. done_kept (Stat inode))
-outcome_done row parent cred (op.Access path want) fresh served = done_found row (access_outcome cred want) (λ inode. done_checked ((not (grants cred want inode), Eacces) ∷ []) (kept Fine) (done_kept Fine))
+outcome_done row parent cred (op.Stat path) fresh served = done_found row (λ inode. without_change (Stat inode)) (λ inode. done_kept (Stat inode))
+outcome_done row parent cred (op.Access path want) fresh served = done_found row (access_outcome cred want) (λ inode. done_checked ((not (grants cred want inode), Eacces) ∷ []) (without_change Fine) (done_kept Fine))
 outcome_done row parent cred (op.Truncate path size) fresh served =
     done_found row (truncate_outcome cred size) (λ inode. done_checked ((is_dir inode, Eisdir) ∷ (not (grants cred 2 inode), Eacces) ∷ []) _ (Fine, (change.Put (record inode { size = size }), refl)))
 outcome_done row parent cred (op.Unlink path) fresh served =
-    done_found row (unlink_outcome parent cred) (λ inode. done_checked ((not (parent_grants cred 2 parent), Eacces) ∷ (is_dir inode, Eperm) ∷ []) _ (Fine, (change.Remove, refl)))
+    done_found row (unlink_outcome parent cred) (λ inode. done_checked ((not (kept_grants cred 2 parent), Eacces) ∷ (is_dir inode, Eperm) ∷ []) _ (Fine, (change.Remove, refl)))
 outcome_done row parent cred other fresh served = cc
 
 -- ---- a row that changes
@@ -62,14 +62,14 @@ outcome_done row parent cred other fresh served = cc
 abbrev OrKeeps : Type 0 → ExecOut → Type 0
 OrKeeps P o = (reply : Reply) (ch : Change) → o ≡ out.Finish reply ch → ch ≢ change.Keep → P
 
-keeps : (P : Type 0) (reply : Reply) → OrKeeps P (kept reply)
+keeps : (P : Type 0) (reply : Reply) → OrKeeps P (without_change reply)
 keeps P reply other ch is changes = absurd (changes (cc))
 
-keeps_after : (P : Type 0) (check : Bool) (errno : Errno) (o : ExecOut) → (check ≡ false → OrKeeps P o) → OrKeeps P (cond check (kept (Fail errno)) o)
+keeps_after : (P : Type 0) (check : Bool) (errno : Errno) (o : ExecOut) → (check ≡ false → OrKeeps P o) → OrKeeps P (cond check (without_change (Fail errno)) o)
 keeps_after P true errno o later = keeps P (Fail errno)
 keeps_after P false errno o later = later refl
 
-keeps_found : (P : Type 0) (row : Option Inode) (go : Inode → ExecOut) → ((inode : Inode) → row ≡ Some inode → OrKeeps P (go inode)) → OrKeeps P (found row go)
+keeps_found : (P : Type 0) (row : Option Inode) (go : Inode → ExecOut) → ((inode : Inode) → row ≡ Some inode → OrKeeps P (go inode)) → OrKeeps P (where_found row go)
 keeps_found P None go later = keeps P (Fail Enoent)
 keeps_found P (Some inode) go later = later inode refl
 
@@ -84,11 +84,11 @@ off_dirs : (row : Option Inode) (parent : Option Dentry) (cred : Cred) (call : O
 off_dirs row parent cred (op.Mkdir path mode) fresh served = keeps_after _ (is_some row) Eexist _ (λ none reply ch is changes. no_row row none)
 off_dirs row parent cred (op.Create path mode) fresh served = keeps_after _ (is_some row) Eexist _ (λ none reply ch is changes. no_row row none)
 off_dirs row parent cred (op.Stat path) fresh served = keeps_found _ row _ (λ inode there. keeps _ (Stat inode))
-off_dirs row parent cred (op.Access path want) fresh served = keeps_found _ row _ (λ inode there. keeps_after _ (not (grants cred want inode)) Eacces (kept Fine) (λ _. keeps _ Fine))
+off_dirs row parent cred (op.Access path want) fresh served = keeps_found _ row _ (λ inode there. keeps_after _ (not (grants cred want inode)) Eacces (without_change Fine) (λ _. keeps _ Fine))
 off_dirs row parent cred (op.Truncate path size) fresh served =
     keeps_found _ row _ (λ inode there. keeps_after _ (is_dir inode) Eisdir _ (λ file reply ch is changes. no_dir row inode there file))
 off_dirs row parent cred (op.Unlink path) fresh served =
-    keeps_found _ row _ (λ inode there. keeps_after _ (not (parent_grants cred 2 parent)) Eacces _ (λ granted. keeps_after _ (is_dir inode) Eperm _ (λ file reply ch is changes. no_dir row inode there file)))
+    keeps_found _ row _ (λ inode there. keeps_after _ (not (kept_grants cred 2 parent)) Eacces _ (λ granted. keeps_after _ (is_dir inode) Eperm _ (λ file reply ch is changes. no_dir row inode there file)))
 off_dirs row parent cred other fresh served = cc
 
 -- where a served call changes its row, no directory stands there
@@ -99,7 +99,7 @@ outcome_off_dirs row parent cred call fresh reply ch served is changes = off_dir
 -- a new row is never taken away
 make_puts : (row : Option Inode) (parent : Option Dentry) (cred : Cred) (made : Inode) (reply : Reply) → make_outcome row parent cred made ≡ out.Finish reply change.Remove → ⊥
 make_puts row parent cred made reply =
-    checked_ends (λ o. o ≡ out.Finish reply change.Remove → ⊥) (λ errno is. cc) ((is_some row, Eexist) ∷ (not (parent_grants cred 2 parent), Eacces) ∷ []) (out.Finish Fine (change.Put made)) (λ is. cc)
+    checked_ends (λ o. o ≡ out.Finish reply change.Remove → ⊥) (λ errno is. cc) ((is_some row, Eexist) ∷ (not (kept_grants cred 2 parent), Eacces) ∷ []) (out.Finish Fine (change.Put made)) (λ is. cc)
 
 pub remove_makes_none : (row : Option Inode) (parent : Option Dentry) (cred : Cred) (call : Op) (fresh : ℕ) (reply : Reply) → outcome_of row parent cred call fresh ≡ out.Finish reply change.Remove → is_making call ≡ false
 remove_makes_none row parent cred (op.Mkdir path mode) fresh reply is = absurd (make_puts row parent cred (new_row cred Dir mode fresh) reply is)

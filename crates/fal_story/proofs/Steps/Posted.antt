@@ -3,7 +3,6 @@ use Rattle.std.proofs.Common.{ℕ, [], ◌∷◌, ◌++◌}
 use Rattle.fal_base.specs.declared.call.Config.{Config}
 use Rattle.fal_base.specs.declared.event.Actor.{Actor}
 use Rattle.fal_wire.specs.declared.message.Message.{Message}
-use Rattle.fal_wire.specs.declared.message.Message.TheVariants as message
 use Rattle.fal_story.proofs.Families.Asking.{FineAsking, asking_posted}
 use Rattle.fal_story.proofs.Families.Operation.{IsTold}
 use Rattle.fal_story.proofs.Families.OperationCalls.{operation_posted}

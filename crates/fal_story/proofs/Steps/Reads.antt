@@ -5,6 +5,8 @@ use Rattle.fal_base.specs.declared.call.Config.{Config}
 use Rattle.fal_base.specs.declared.key.Key.{Key}
 use Rattle.fal_base.specs.declared.row.Update.{Update}
 use Rattle.fal_base.specs.Tree.{row_at}
+use Rattle.fal_base.specs.Updates.{laid, keys_of}
+use Rattle.fal_base.proofs.Updates.{laid_off}
 use Rattle.fal_dentry.specs.Walk.{is_among}
 use Rattle.fal_place.specs.Placement.{Placement, owner}
 use Rattle.fal_wire.specs.declared.message.Message.{Message}
@@ -13,7 +15,7 @@ use Rattle.fal_story.proofs.Families.Clear.{IsShut}
 use Rattle.fal_story.proofs.Families.Operation.{AreWithin, Stands, rows_of}
 use Rattle.fal_story.proofs.Families.OperationRows.{rows_same}
 use Rattle.fal_story.proofs.Good.{Good}
-use Rattle.fal_story.proofs.Trees.Laid.{laid, laid_off, keys_of, owned_among}
+use Rattle.fal_story.proofs.Trees.Laid.{owned_among}
 use Rattle.fal_story.proofs.View.{View, Work, Rests, Walks, Locks, Counts, Ends, now}
 
 pub not_true : (b : Bool) → b ≢ true → b ≡ false

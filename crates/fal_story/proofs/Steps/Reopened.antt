@@ -3,28 +3,20 @@ use Rattle.std.proofs.Common.{◌≡◌, ℕ, ◌<◌, List, [], Some, None}
 use Rattle.fal_base.specs.declared.call.Config.{Config}
 use Rattle.fal_base.specs.declared.key.Key.{Key}
 use Rattle.fal_base.specs.declared.row.Update.{Update}
+use Rattle.fal_base.specs.Updates.{laid}
 use Rattle.fal_wire.specs.declared.message.Message.TheVariants as message
 use Rattle.fal_story.proofs.Families.Clear.{clear_reopened}
 use Rattle.fal_story.proofs.Families.Ground.{ground_reopened}
 use Rattle.fal_story.proofs.Families.Operation.{LocksKeys, shut_by}
 use Rattle.fal_story.proofs.Families.OperationNodes.{operation_queued, operation_reopened}
 use Rattle.fal_story.proofs.Good.{Good}
-use Rattle.fal_story.proofs.Trees.Laid.{laid}
+use Rattle.fal_story.proofs.Steps.Carried.{operated_good}
 use Rattle.fal_story.proofs.View.{View, Ends}
 use Rattle.fal_story.specs.World.{put}
 
 pub queued_good : (config : Config) (v : View) (n : ℕ) (keys : List Key) → n < config.nodes → v.op.last n < v.op.operation → LocksKeys v.op.work keys → Good config v
     → Good config (record v { op = record v.op { queued = put v.op.queued n (Some (message.Lock v.op.operation keys)); last = put v.op.last n v.op.operation } })
-queued_good config v n keys below newer locks g = record {
-  ground = g.ground;
-  clear = g.clear;
-  asking = g.asking;
-  plans = g.plans;
-  lanes = g.lanes;
-  script = g.script;
-  records = g.records;
-  operation = operation_queued g.operation n keys below newer locks;
-}
+queued_good config v n keys below newer locks g = operated_good config v (operation_queued g.operation n keys below newer locks) g
 
 pub reopened_good : (config : Config) (v : View) (n : ℕ) (keys : List Key) (updates : List Update) (missing : List ℕ) → v.op.work ≡ Ends keys updates missing → v.op.shut n ≡ shut_by v.op.operation keys → Good config v
     → Good config (record v { rows = put v.rows n (laid (v.op.due n) (v.rows n)); op = record v.op { due = put v.op.due n []; shut = put v.op.shut n None } })

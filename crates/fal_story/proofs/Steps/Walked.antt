@@ -1,20 +1,15 @@
 -- The coordinator walks for its call over its own replica: it asks for a directory that it lacks, or keeps where the walk ended.
-use Rattle.std.proofs.Common.{◌≡◌, ◌≢◌, ◌⊎◌, inl, inr, ⊎_elim, ℕ, ◌+◌, ◌<◌, ◌≤◌, Bool, true, false, ◌||◌, List, [], ◌∷◌, ◌++◌, Option, Some, None, IsSome, IsSomeAnd, if◌then◌else◌, refl, sym, ap, ◌∙◌, subst, arith}
+use Rattle.std.proofs.Common.{◌≡◌, ◌≢◌, ◌⊎◌, inl, inr, ⊎_elim, ℕ, ◌+◌, ◌<◌, ◌≤◌, true, List, [], ◌∷◌, ◌++◌, Option, Some, None, IsSomeAnd, refl, sym, ap, ◌∙◌, subst, arith}
 use Rattle.std.specs.List.{All}
 use Rattle.std.specs.Prelude.{slice_get}
-use Rattle.std.proofs.lemmas.List.Elements.{All-cons, All-nil, All-weaker}
 use Rattle.fal_base.specs.declared.call.Config.{Config}
 use Rattle.fal_base.specs.declared.call.Cred.{Cred}
 use Rattle.fal_base.specs.declared.event.Actor.TheVariants.{Node}
 use Rattle.fal_base.specs.declared.inode.Dentry.{Dentry}
-use Rattle.fal_base.specs.declared.inode.Inode.{Inode}
 use Rattle.fal_base.specs.declared.key.Key.{Key}
-use Rattle.fal_base.specs.Maps.{value_at}
-use Rattle.fal_base.proofs.Maps.{same_key_is}
-use Rattle.fal_base.specs.Tree.{Tree, row_at, key_of, root_key, same_key}
-use Rattle.fal_base.specs.Walk.{is_dir, dentry_of, dentry_grants}
-use Rattle.fal_dentry.specs.TreeWalk.{IsTreeWalk, IsTrueAt, found_on, keys_met, keys_met_from, last_key, last_name, way}
-use Rattle.fal_dentry.specs.Walk.{Dentries, Missing, Ready, is_among, replica_walk}
+use Rattle.fal_base.specs.Walk.{walk}
+use Rattle.fal_dentry.specs.TreeWalk.{last_key, last_name, way}
+use Rattle.fal_dentry.specs.Walk.{Missing, Ready, is_among, replica_walk}
 use Rattle.fal_exec.specs.RowCall.{row_names}
 use Rattle.fal_place.specs.Placement.{owner}
 use Rattle.fal_wire.specs.declared.message.Message.TheVariants as message
@@ -28,72 +23,21 @@ use Rattle.fal_story.proofs.Steps.Fetching.{pended_good, raised_good}
 use Rattle.fal_story.proofs.Steps.Moved.{MayMove, moved_good}
 use Rattle.fal_story.proofs.Steps.Posted.{posted_good}
 use Rattle.fal_story.proofs.Trees.Changed.{up_to}
+use Rattle.fal_story.proofs.Trees.Footprint.{among_itself, comes_among}
 use Rattle.fal_story.proofs.Trees.Met.{Met, met_way}
-use Rattle.fal_story.proofs.Trees.Standing.{HasDir, Reaches}
+use Rattle.fal_story.proofs.Trees.Standing.{Reaches}
 use Rattle.fal_story.proofs.View.{Asking, post, View, Walks, now}
 use Rattle.fal_story.specs.World.{put}
 
--- ---- entries that are met are the tree's
-
-all_found : (entries : Dentries) (cred : Cred) (shut : List Key) (key : Key) (names : List (List ℕ)) → All (λ k. IsSome (value_at entries k)) (keys_met_from entries cred shut key names)
-all_found entries cred shut key [] = All-nil (λ k. IsSome (value_at entries k))
-all_found entries cred shut key (name ∷ names) =
-    let later = λ (dir : Dentry). if dentry_grants cred 1 dir then keys_met_from entries cred shut (key_of dir.ino name) names else [] in
-    elim (is_among key shut) as (λ b. All (λ k. IsSome (value_at entries k)) (if b then [] else found_on key (value_at entries key) later)) [
-      | true ↦ All-nil (λ k. IsSome (value_at entries k))
-      | false ↦ elim (value_at entries key) as (λ o. value_at entries key ≡ o → All (λ k. IsSome (value_at entries k)) (found_on key o later)) [
-        | None ↦ λ none. All-nil (λ k. IsSome (value_at entries k))
-        | Some dir ↦ λ there. All-cons (λ k. IsSome (value_at entries k)) key _ (subst IsSome (sym there) refl)
-            (elim (dentry_grants cred 1 dir) as (λ b. All (λ k. IsSome (value_at entries k)) (if b then keys_met_from entries cred shut (key_of dir.ino name) names else [])) [
-              | true ↦ all_found entries cred shut (key_of dir.ino name) names
-              | false ↦ All-nil (λ k. IsSome (value_at entries k))
-            ])
-      ] refl
-    ]
-
-true_at : (t : Tree) (entries : Dentries) (key : Key) → ((dentry : Dentry) → value_at entries key ≡ Some dentry → HasDir t key dentry) → IsSome (value_at entries key) → IsTrueAt t entries key
-true_at t entries key has some =
-    elim (value_at entries key) as (λ o. value_at entries key ≡ o → IsSome o → IsTrueAt t entries key) [
-      | None ↦ λ none some. absurd (cc)
-      | Some dentry ↦ λ there _. of_row (row_at t key) dentry there (has dentry there)
-    ] refl some
-  where
-    of_row : (row : Option Inode) (dentry : Dentry) → value_at entries key ≡ Some dentry → IsSomeAnd row (λ dir. (is_dir dir ≡ true) × (dentry_of dir ≡ dentry)) → IsSomeAnd row (λ dir. (is_dir dir ≡ true) × (value_at entries key ≡ Some (dentry_of dir)))
-    of_row None dentry there is = is
-    of_row (Some dir) dentry there is = (is.0, there ∙ ap (λ d. Some d) (sym is.1))
-
-pub are_true : (config : Config) (v : View) (n : ℕ) (cred : Cred) (names : List (List ℕ)) (shut : List Key) → Good config v → All (IsTrueAt (now v) (v.replica n)) (keys_met (v.replica n) cred names shut)
-are_true config v n cred names shut g = All-weaker (λ k. IsSome (value_at (v.replica n) k)) (IsTrueAt (now v) (v.replica n)) (λ key some. true_at (now v) (v.replica n) key (λ dentry there. g.ground.replicas n key dentry there) some)
-    (keys_met (v.replica n) cred names shut) (all_found (v.replica n) cred shut root_key names)
-
 -- ---- the walk is ready: where it ended is kept
 
-pub walk_kept_now : (config : Config) (v : View) (cred : Cred) (names : List (List ℕ)) (parent : Option Dentry) (passed : List ℕ) (keys : List Key) → IsTreeWalk (now v) (v.replica 255) cred names [] (Ready parent passed keys) → Good config v
-    → IsKept (now v) cred (record { names = names; parent = parent; passed = passed; last = last_key parent (last_name names) })
-walk_kept_now config v cred names parent passed keys law g = let says = law (are_true config v 255 cred names [] g) in (says.0, (says.1, says.2))
+pub walk_kept_now : (config : Config) (v : View) (cred : Cred) (names : List (List ℕ)) (parent : Option Dentry) (passed : List ℕ) (keys : List Key)
+    → replica_walk (v.replica 255) cred names [] ≡ Ready parent passed keys → Good config v → IsKept (now v) cred (record { names = names; parent = parent; passed = passed; last = last_key parent (last_name names) })
+walk_kept_now config v cred names parent passed keys is g =
+    let met = subst (Met (now v) (v.replica 255) cred [] names (way (now v) cred names) (walk (now v) cred names)) is (met_way (now v) (v.replica 255) cred [] (g.ground.replicas 255) names) in
+    (met.0.0, (met.0.1, met.0.2))
 
 -- ---- the walk lacks a directory: a fetch is opened, for which the call waits
-
-ends_among : (keys : List Key) (key : Key) → is_among key (keys ++ key ∷ []) ≡ true
-ends_among [] key = ap (λ b. b || false) ((same_key_is key key).1 refl)
-ends_among (k ∷ keys) key = elim (same_key k key) as (λ b. (b || is_among key (keys ++ key ∷ [])) ≡ true) [ true ↦ refl | false ↦ ends_among keys key ]
-
-up_among : (key : Key) (keys : List Key) → is_among key (up_to key keys) ≡ true → is_among key keys ≡ true
-up_among key [] is = is
-up_among key (k ∷ keys) is =
-    elim (same_key k key) as (λ b. same_key k key ≡ b → is_among key (if b then k ∷ [] else k ∷ up_to key keys) ≡ true → (b || is_among key keys) ≡ true) [
-      | true ↦ λ same _. refl
-      | false ↦ λ apart is. up_among key keys (sym (ap (λ b. b || is_among key (up_to key keys)) apart) ∙ is)
-    ] refl is
-
-all_of : (keys : List Key) → All (λ k. is_among k keys ≡ true) keys
-all_of [] = All-nil (λ k. is_among k [] ≡ true)
-all_of (key ∷ keys) = All-cons (λ k. is_among k (key ∷ keys) ≡ true) key keys (ap (λ b. b || is_among key keys) ((same_key_is key key).1 refl))
-    (All-weaker (λ k. is_among k keys ≡ true) (λ k. is_among k (key ∷ keys) ≡ true) (λ k is. second (same_key key k) _ is) keys (all_of keys))
-  where
-    second : (a b : Bool) → b ≡ true → (a || b) ≡ true
-    second true b is = refl
-    second false b is = is
 
 module _ (config : Config) (v : View) (l : ℕ) (names : List (List ℕ)) (key : Key) (keys : List Key) (point : ℕ) where
   abbrev number : ℕ
@@ -126,19 +70,21 @@ module _ (config : Config) (v : View) (l : ℕ) (names : List (List ℕ)) (key :
   open_there : (q : Key) → IsLacking → Good config v → IsShut (v.op.shut 255) q → ⊥
   open_there q is g shut = subst (λ s. IsShut s q) (g.operation.beyond 255 is.few) shut
 
-  met : IsLacking → Good config v → Met (now v) (v.replica 255) (v.call l).cred [] (way (now v) (v.call l).cred names) (Missing key keys)
-  met is g = subst (Met (now v) (v.replica 255) (v.call l).cred [] (way (now v) (v.call l).cred names)) is.lacks (met_way (now v) (v.replica 255) (v.call l).cred [] names (are_true config v 255 (v.call l).cred names [] g))
+  met : IsLacking → Good config v → Met (now v) (v.replica 255) (v.call l).cred [] names (way (now v) (v.call l).cred names) (walk (now v) (v.call l).cred names) (Missing key keys)
+  met is g =
+      subst (Met (now v) (v.replica 255) (v.call l).cred [] names (way (now v) (v.call l).cred names) (walk (now v) (v.call l).cred names)) is.lacks
+      (met_way (now v) (v.replica 255) (v.call l).cred [] (g.ground.replicas 255) names)
 
   reaches : IsLacking → Good config v → Reaches (now v) (v.call l) key
   reaches is g =
       let x = met is g in
       subst (λ o. IsSomeAnd o (λ names. is_among key (way (now v) (v.call l).cred names) ≡ true)) (sym is.named)
-      (up_among key (way (now v) (v.call l).cred names) (ap (is_among key) x.0 ∙ ends_among keys key))
+      (comes_among key (way (now v) (v.call l).cred names) keys x.0)
 
   crosses : IsLacking → Good config v → Crosses (now v) (v.call l) key crossed_now
   crosses is g =
       let x = met is g in
-      subst (λ o. IsSomeAnd o (λ names. All (IsCrossed crossed_now) (up_to key (way (now v) (v.call l).cred names)))) (sym is.named) (subst (All (IsCrossed crossed_now)) (sym x.0) (all_of crossed_now))
+      subst (λ o. IsSomeAnd o (λ names. All (IsCrossed crossed_now) (up_to key (way (now v) (v.call l).cred names)))) (sym is.named) (subst (All (IsCrossed crossed_now)) (sym x.0) (among_itself crossed_now))
 
   -- the operation has a number, which no node has heard of
   has_begun : v.op.work ≡ Walks l → Good config v → 0 < v.op.operation

@@ -9,6 +9,7 @@ use Rattle.fal_base.specs.declared.key.Key.{Key}
 use Rattle.fal_base.specs.declared.reply.Errno.TheVariants.{Eacces, Enotdir}
 use Rattle.fal_base.specs.Tree.{Tree, row_at, key_of, root_key, same_key}
 use Rattle.fal_base.specs.Walk.{Walked, Stop, Ready, walk, walk_from, is_dir, grants, dentry_of, into, passing}
+use Rattle.fal_dentry.proofs.TreeSteps.{on_way, passed, walk_at}
 use Rattle.fal_dentry.proofs.WalkKeys.{walk_agree}
 use Rattle.fal_dentry.specs.TreeWalk.{through, way, way_from}
 use Rattle.fal_dentry.specs.Walk.{is_among}
@@ -24,12 +25,6 @@ abbrev pub up_to : Key → List Key → List Key
 up_to q [] = []
 up_to q (key ∷ keys) = if same_key key q then key ∷ [] else key ∷ up_to q keys
 
--- ---- the walk from a key on
-
-pub passes_in : (ino : ℕ) (row : Option Inode) (go : Inode → Walked) → into row (λ inner. passing ino (go inner)) ≡ passing ino (into row go)
-passes_in ino None go = refl
-passes_in ino (Some inode) go = elim (is_dir inode) as (λ b. (if b then passing ino (go inode) else Stop Enotdir) ≡ passing ino (if b then go inode else Stop Enotdir)) [ true ↦ refl | false ↦ refl ]
-
 -- a walk that ends at a directory
 abbrev pub IsEnded : Walked → Type 0
 IsEnded (Stop errno) = errno ≡ Eacces
@@ -40,18 +35,6 @@ ended_inside ino (Stop errno) is = is
 ended_inside ino (Ready parent passed last) is = tt
 
 module _ (t : Tree) (cred : Cred) where
-  abbrev pub walk_at : Key → List (List ℕ) → Walked
-  walk_at key names = into (row_at t key) (λ dir. walk_from t cred dir names)
-
-  pub passed_on : (dir : Inode) (name next : List ℕ) (names : List (List ℕ)) → grants cred 1 dir ≡ true → walk_from t cred dir (name ∷ next ∷ names) ≡ passing dir.ino (walk_at (key_of dir.ino name) (next ∷ names))
-  passed_on dir name next names is =
-      ap (λ b. if b then into (row_at t (key_of dir.ino name)) (λ inner. passing dir.ino (walk_from t cred inner (next ∷ names))) else Stop Eacces) is
-      ∙ passes_in dir.ino (row_at t (key_of dir.ino name)) (λ inner. walk_from t cred inner (next ∷ names))
-
-  -- the rest of the way, through a directory
-  abbrev pub on_way : List ℕ → List (List ℕ) → Inode → List Key
-  on_way name names dir = if grants cred 1 dir then way_from t cred (key_of dir.ino name) names else []
-
   abbrev IsDirAt : Key → Type 0
   IsDirAt key = is_directory (row_at t key) ≡ true
 
@@ -62,21 +45,21 @@ module _ (t : Tree) (cred : Cred) where
 
   dirs_kind : (key : Key) (dir : Inode) (name : List ℕ) (names : List (List ℕ)) (b : Bool) → is_directory (row_at t key) ≡ b → IsEnded (if b then walk_from t cred dir (name ∷ names) else Stop Enotdir)
       → (IsEnded (walk_from t cred dir (name ∷ names)) → grants cred 1 dir ≡ true → All IsDirAt (way_from t cred (key_of dir.ino name) names))
-      → All IsDirAt (key ∷ (if b then on_way name names dir else []))
+      → All IsDirAt (key ∷ (if b then on_way t cred name names dir else []))
   dirs_kind key dir name names true is ended later = All-cons IsDirAt key _ is (dirs_granted dir name names _ refl (later ended))
   dirs_kind key dir name names false is ended later = absurd (cc)
 
   dirs_row : (key : Key) (name : List ℕ) (names : List (List ℕ)) (row : Option Inode) → row_at t key ≡ row → IsEnded (into row (λ dir. walk_from t cred dir (name ∷ names)))
       → ((dir : Inode) → IsEnded (walk_from t cred dir (name ∷ names)) → grants cred 1 dir ≡ true → All IsDirAt (way_from t cred (key_of dir.ino name) names))
-      → All IsDirAt (key ∷ through row (on_way name names))
+      → All IsDirAt (key ∷ through row (on_way t cred name names))
   dirs_row key name names None is ended later = absurd (cc)
   dirs_row key name names (Some dir) is ended later = dirs_kind key dir name names (is_dir dir) (ap is_directory is) ended (later dir)
 
-  dirs_from : (key : Key) (name : List ℕ) (names : List (List ℕ)) → IsEnded (walk_at key (name ∷ names)) → All IsDirAt (way_from t cred key (name ∷ names))
+  dirs_from : (key : Key) (name : List ℕ) (names : List (List ℕ)) → IsEnded (walk_at t cred key (name ∷ names)) → All IsDirAt (way_from t cred key (name ∷ names))
   dirs_from key name [] ended = dirs_row key name [] (row_at t key) refl ended (λ dir _ granted. All-nil IsDirAt)
   dirs_from key name (next ∷ names) ended =
       dirs_row key name (next ∷ names) (row_at t key) refl ended (λ dir inside granted.
-      dirs_from (key_of dir.ino name) next names (ended_inside dir.ino (walk_at (key_of dir.ino name) (next ∷ names)) (subst IsEnded (passed_on dir name next names granted) inside)))
+      dirs_from (key_of dir.ino name) next names (ended_inside dir.ino (walk_at t cred (key_of dir.ino name) (next ∷ names)) (subst IsEnded (passed t cred dir name next names granted) inside)))
 
   -- where a walk ends at a directory, each key of its way has one
   dirs_way : (names : List (List ℕ)) → IsEnded (walk t cred names) → All IsDirAt (way t cred names)

@@ -1,8 +1,8 @@
--- The keys on which the place of a call rests once its walk was made: those of its way, and its last.
-use Rattle.std.proofs.Common.{◌≡◌, true, false, ◌||◌, List, [], ◌∷◌, ◌++◌, Option, Some, None, ℕ, refl, ap}
+-- The keys on which the place of a call rests: where its walk was made those of its way, and its last; where it waits for a directory those up to that one.
+use Rattle.std.proofs.Common.{◌≡◌, true, false, ◌||◌, List, [], ◌∷◌, ◌++◌, Option, Some, None, ℕ, refl, sym, ap, subst, ◌∙◌, append-nil}
 use Rattle.std.specs.Prelude.{if◌then◌else◌}
 use Rattle.std.specs.List.{All}
-use Rattle.std.proofs.lemmas.List.Elements.{All-head, All-tail, All-weaker, All-cons, All-nil}
+use Rattle.std.proofs.lemmas.List.Elements.{All-weaker, All-cons, All-nil}
 use Rattle.fal_base.specs.declared.call.CallRec.{CallRec}
 use Rattle.fal_base.specs.declared.call.Cred.{Cred}
 use Rattle.fal_base.specs.declared.key.Key.{Key}
@@ -26,6 +26,14 @@ footprint_of tree cred (Some names) = way tree cred names ++ last_of_walk (walk 
 abbrev pub footprint : Tree → CallRec → List Key
 footprint tree call = footprint_of tree call.cred (row_names call.op)
 
+-- of a call that waits for the directory under a key: those of its way up to there
+abbrev pub way_to_of : Tree → Cred → Key → Option (List (List ℕ)) → List Key
+way_to_of tree cred key None = []
+way_to_of tree cred key (Some names) = up_to key (way tree cred names)
+
+abbrev pub way_to : Tree → CallRec → Key → List Key
+way_to tree call key = way_to_of tree call.cred key (row_names call.op)
+
 abbrev IsOf : List Key → Key → Type 0
 IsOf keys key = is_among key keys ≡ true
 
@@ -37,15 +45,21 @@ among_front (x ∷ xs) ys =
     (ap (λ b. b || is_among x (xs ++ ys)) ((same_key_is x x).1 refl))
     (All-weaker (IsOf (xs ++ ys)) (IsOf ((x ∷ xs) ++ ys)) (λ key is. or_second (same_key x key) (is_among key (xs ++ ys)) is) xs (among_front xs ys))
 
+pub among_itself : (keys : List Key) → All (λ key. is_among key keys ≡ true) keys
+among_itself keys = subst (λ ks. All (IsOf ks) keys) (append-nil keys) (among_front keys [])
+
 pub among_end : (xs : List Key) (key : Key) → is_among key (xs ++ key ∷ []) ≡ true
 among_end [] key = ap (λ b. b || false) ((same_key_is key key).1 refl)
 among_end (x ∷ xs) key = or_second (same_key x key) (is_among key (xs ++ key ∷ [])) (among_end xs key)
 
--- what holds of a way holds of the way up to a key
-pub all_up_to : (P : Key → Type 0) (q : Key) (xs : List Key) → All P xs → All P (up_to q xs)
-all_up_to P q [] all = all
-all_up_to P q (x ∷ xs) all =
-    elim (same_key x q) as (λ b. All P (if b then x ∷ [] else x ∷ up_to q xs)) [
-      | true ↦ All-cons P x [] (All-head P x xs all) (All-nil P)
-      | false ↦ All-cons P x (up_to q xs) (All-head P x xs all) (all_up_to P q xs (All-tail P x xs all))
-    ]
+-- a key to which a way comes is one of its keys
+pub up_among : (key : Key) (keys : List Key) → is_among key (up_to key keys) ≡ true → is_among key keys ≡ true
+up_among key [] is = is
+up_among key (k ∷ keys) is =
+    elim (same_key k key) as (λ b. same_key k key ≡ b → is_among key (if b then k ∷ [] else k ∷ up_to key keys) ≡ true → (b || is_among key keys) ≡ true) [
+      | true ↦ λ same _. refl
+      | false ↦ λ apart is. up_among key keys (sym (ap (λ b. b || is_among key (up_to key keys)) apart) ∙ is)
+    ] refl is
+
+pub comes_among : (key : Key) (way passed : List Key) → up_to key way ≡ passed ++ key ∷ [] → is_among key way ≡ true
+comes_among key way passed is = up_among key way (ap (is_among key) is ∙ among_end passed key)

@@ -1,6 +1,6 @@
 -- What stands in the tree: rows by who owns them, directories, and the keys to which walks come.
 use Rattle.std.proofs.Common.{◌≡◌, ℕ, true, List, length, Option, None}
-use Rattle.std.specs.Prelude.{◌==◌, if◌then◌else◌, IsSome, IsSomeAnd}
+use Rattle.std.specs.Prelude.{◌==◌, if◌then◌else◌, IsSomeAnd}
 use Rattle.fal_base.specs.declared.call.CallRec.{CallRec}
 use Rattle.fal_base.specs.declared.call.Config.{Config}
 use Rattle.fal_base.specs.declared.inode.Dentry.{Dentry}
@@ -32,9 +32,6 @@ HasDir tree key dentry = IsSomeAnd (row_at tree key) (λ dir. (is_dir dir ≡ tr
 abbrev pub Reaches : Tree → CallRec → Key → Type 0
 Reaches tree call key = IsSomeAnd (row_names call.op) (λ names. is_among key (way tree call.cred names) ≡ true)
 
--- no row under the directory lives at the node; some row is under it
+-- no row under the directory lives at the node
 abbrev pub NoneUnder : Placement → Tree → ℕ → ℕ → Type 0
 NoneUnder table tree n dir = (key : Key) → key.parent ≡ dir → owner table key ≡ n → row_at tree key ≡ None
-
-abbrev pub SomeUnder : Tree → ℕ → Type 0
-SomeUnder tree dir = (key : Key) × (key.parent ≡ dir) × IsSome (row_at tree key)

@@ -8,9 +8,9 @@ use Rattle.fal_base.specs.declared.reply.Errno.{Errno}
 use Rattle.fal_base.proofs.Maps.{same_key_is}
 use Rattle.fal_base.specs.Tree.{Tree, row_at, key_of, root_key, same_key}
 use Rattle.fal_base.specs.Walk.{Walked, Stop, walk, walk_from, is_dir, grants, into, passing}
+use Rattle.fal_dentry.proofs.TreeSteps.{on_way, passed, walk_at}
 use Rattle.fal_dentry.specs.TreeWalk.{through, way, way_from}
 use Rattle.fal_dentry.specs.Walk.{is_among}
-use Rattle.fal_story.proofs.Trees.Changed.{walk_at, on_way, passed_on}
 
 second_is : (a b : Bool) → a ≡ false → (a || b) ≡ true → b ≡ true
 second_is true b off is = cc
@@ -47,7 +47,7 @@ module _ (t : Tree) (cred : Cred) (q : Key) (errno : Errno) (stops : (go : Inode
   stop_from at name [] is = stop_at at name [] (λ dir inside. stop_granted dir name [] (λ granted on. cc) inside) is
   stop_from at name (next ∷ names) is =
       stop_at at name (next ∷ names) (λ dir inside. stop_granted dir name (next ∷ names) (λ granted on.
-      passed_on t cred dir name next names granted ∙ ap (passing dir.ino) (stop_from (key_of dir.ino name) next names on)) inside) is
+      passed t cred dir name next names granted ∙ ap (passing dir.ino) (stop_from (key_of dir.ino name) next names on)) inside) is
 
   stop_way : (names : List (List ℕ)) → is_among q (way t cred names) ≡ true → walk t cred names ≡ Stop errno
   stop_way [] is = cc

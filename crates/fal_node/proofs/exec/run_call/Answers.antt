@@ -4,7 +4,7 @@ use Rattle.fal_exec.specs.declared.outcome.Change.TheVariants as change
 use Rattle.fal_wire.specs.declared.letter.Letter.{Letter}
 use Rattle.fal_node.specs.Letters.{commits_in}
 use Rattle.fal_node.specs.Exec.{number_after, call_outcome, change_of, answer_letter, draws, drawn_by, noted_number, exec_as}
-use Rattle.fal_node.proofs.Numbers.{noted_alike, drawn_fits}
+use Rattle.fal_node.proofs.Numbers.{noted_alike, put_fits}
 use Rattle.fal_node.specs.Patch.{rows_changed}
 use Rattle.fal_node.proofs.Runs.{work_of, commits_in-push, run_keep, run_put, run_remove, exec_one_is}
 use Rattle.fal_node.proofs.exec.run_call.Goals as goal
@@ -29,9 +29,7 @@ put_row-requires-clause-drawn c =
     let r = c.args.run.now in
     let p = c.args.planned.now in
     let os = c.outcome-outcome.ensures ∙ ap (λ cs. call_outcome n.number (rows_changed n.rows cs) (n.drawn + r.drawn) p) c.deref.ensures.value in
-    let put_is : change_of (call_outcome n.number (rows_changed n.rows r.changes.items) (n.drawn + r.drawn) p) ≡ change.Put c.in-Put.inode = ap change_of (sym os) ∙ sym c.in-Put.ensures in
-    let number_fits = λ (draws : 0 < drawn_by p.call.op (change.Put c.in-Put.inode)). c.requires.number (subst (λ ch. 0 < drawn_by p.call.op ch) (sym put_is) draws) in
-    let fits = drawn_fits p.call.op c.in-Put.inode n.number n.drawn r.drawn number_fits c.requires.fits in
+    let fits = put_fits p.call.op c.in-Put.inode n.number n.drawn r.drawn os c.in-Put.ensures c.requires.number c.requires.fits in
     omega arith
 
 pub returns-in-Put-clause-fits : goal.returns-in-Put-clause-fits
@@ -40,9 +38,7 @@ returns-in-Put-clause-fits c =
     let r = c.args.run.now in
     let p = c.args.planned.now in
     let os = c.outcome-outcome.ensures ∙ ap (λ cs. call_outcome n.number (rows_changed n.rows cs) (n.drawn + r.drawn) p) c.deref.ensures.value in
-    let put_is : change_of (call_outcome n.number (rows_changed n.rows r.changes.items) (n.drawn + r.drawn) p) ≡ change.Put c.in-Put.inode = ap change_of (sym os) ∙ sym c.in-Put.ensures in
-    let number_fits = λ (draws : 0 < drawn_by p.call.op (change.Put c.in-Put.inode)). c.requires.number (subst (λ ch. 0 < drawn_by p.call.op ch) (sym put_is) draws) in
-    let fits = drawn_fits p.call.op c.in-Put.inode n.number n.drawn r.drawn number_fits c.requires.fits in
+    let fits = put_fits p.call.op c.in-Put.inode n.number n.drawn r.drawn os c.in-Put.ensures c.requires.number c.requires.fits in
     let drawn = c.in_ok-put_row-in-Put.ensures.drawn in
     omega arith
 

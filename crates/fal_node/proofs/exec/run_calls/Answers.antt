@@ -1,10 +1,8 @@
-use Rattle.std.proofs.Common.{◌≡◌, sym, ap, ◌∙◌, subst, arith}
+use Rattle.std.proofs.Common.{◌≡◌, sym, ap, ◌∙◌, arith}
 use Rattle.fal_node.specs.Letters.{commits_in}
 use Rattle.fal_node.specs.Exec.{exec_all}
-use Rattle.fal_node.specs.Runs.{run_work}
-use Rattle.fal_node.specs.Step.{IsWithin}
 use Rattle.fal_node.proofs.Runs.{work_of}
-use Rattle.fal_node.proofs.Within.{number_now, hop_now, few_now, run_start}
+use Rattle.fal_node.proofs.Within.{within_now, number_now, hop_now, few_now, run_start}
 use Rattle.fal_node.proofs.exec.run_calls.Goals as goal
 
 pub loop-planned-init : goal.loop-planned-init
@@ -27,19 +25,19 @@ pub run_call-requires-clause-number : goal.run_call-requires-clause-number
 run_call-requires-clause-number c =
     let n = c.args.node.now.state in
     let r = c.loop-planned.run in
-    let within = subst (λ xs. IsWithin (exec_all (run_work n r) xs)) c.in-Some.ensures.cases.0 (subst IsWithin (sym c.loop-planned.invariant.work) c.requires.within) in
+    let within = within_now n r _ _ _ _ c.loop-planned.invariant.work c.in-Some.ensures.cases.0 c.requires.within in
     number_now n r c.in-Some.planned.now c.in-Some.others.now within
 
 pub run_call-requires-clause-hop : goal.run_call-requires-clause-hop
 run_call-requires-clause-hop c =
     let n = c.args.node.now.state in
     let r = c.loop-planned.run in
-    let within = subst (λ xs. IsWithin (exec_all (run_work n r) xs)) c.in-Some.ensures.cases.0 (subst IsWithin (sym c.loop-planned.invariant.work) c.requires.within) in
+    let within = within_now n r _ _ _ _ c.loop-planned.invariant.work c.in-Some.ensures.cases.0 c.requires.within in
     hop_now n r c.in-Some.planned.now c.in-Some.others.now within
 
 pub run_call-requires-clause-few : goal.run_call-requires-clause-few
 run_call-requires-clause-few c =
     let n = c.args.node.now.state in
     let r = c.loop-planned.run in
-    let within = subst (λ xs. IsWithin (exec_all (run_work n r) xs)) c.in-Some.ensures.cases.0 (subst IsWithin (sym c.loop-planned.invariant.work) c.requires.within) in
+    let within = within_now n r _ _ _ _ c.loop-planned.invariant.work c.in-Some.ensures.cases.0 c.requires.within in
     few_now n r c.in-Some.planned.now c.in-Some.others.now within c.loop-planned.invariant.commits

@@ -1,4 +1,3 @@
-use Rattle.fal_script.proofs.Ranges.{script_in_range}
 use Rattle.falcon_run.proofs.InRange.{script_may_run}
 use Rattle.falcon_run.proofs.Wants.{reading_wants, run_wants}
 use Rattle.falcon_run.proofs.run.run_serial.Goals as goal
@@ -6,10 +5,10 @@ use Rattle.falcon_run.proofs.run.run_serial.Goals as goal
 pub run_script-requires-clause-cluster : goal.run_script-requires-clause-cluster
 run_script-requires-clause-cluster g c =
     let gave = c.in-Ok.ensures.reading.gives in
-    script_may_run c.in-Ok.script (script_in_range gave.0 c.in-Ok.script gave.4) gave.5
+    script_may_run c.in-Ok.script c.calls_in_range_may_run.ensures (c.scripts_are_in_range.ensures gave.0 c.in-Ok.script gave.4) gave.5
 
 pub run_script-requires-clause-range : goal.run_script-requires-clause-range
-run_script-requires-clause-range g c = let gave = c.in-Ok.ensures.reading.gives in script_in_range gave.0 c.in-Ok.script gave.4
+run_script-requires-clause-range g c = let gave = c.in-Ok.ensures.reading.gives in c.scripts_are_in_range.ensures gave.0 c.in-Ok.script gave.4
 
 pub returns-in-Ok-clause-memory : goal.returns-in-Ok-clause-memory
 returns-in-Ok-clause-memory g c is =

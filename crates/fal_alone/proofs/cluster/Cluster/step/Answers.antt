@@ -1,10 +1,10 @@
-use Rattle.std.proofs.Common.{⊎_elim, refl, sym, subst}
-use Rattle.std.specs.Prelude.{IsNone}
+use Rattle.std.proofs.Common.{subst, sym}
 use Rattle.fal_base.specs.declared.event.Event.{Event}
+use Rattle.fal_coord.specs.declared.event.CoordEvent.TheVariants as coord_event
 use Rattle.fal_story.specs.Run.{IsLegal, run}
 use Rattle.fal_story.specs.Told.{Told}
-use Rattle.fal_alone.specs.Turns.{deed_after}
-use Rattle.fal_alone.proofs.Taken.{of_send, of_gather, of_exec, of_release, of_serve, none_hears, none_starts}
+use Rattle.fal_alone.specs.Turns.{IsEventOfCoord}
+use Rattle.fal_alone.proofs.Taken.{of_send, of_gather, of_exec, of_release, of_serve, of_start}
 use Rattle.fal_alone.proofs.cluster.Cluster.step.Goals as goal
 
 pub client_takes-requires : goal.client_takes-requires
@@ -37,12 +37,8 @@ node_takes-requires-in-Serve c =
     let legal = subst (λ (t : Told). IsLegal t.config t.events) c.self.view_is c.legal.ensures in
     of_serve told.config (run told.config told.events) c.in-Serve.node c.in-Serve.item legal.enabled
 
-pub returns-in-Hear-clause-refused : goal.returns-in-Hear-clause-refused
-returns-in-Hear-clause-refused c =
+pub coord_takes-requires : goal.coord_takes-requires
+coord_takes-requires c =
     let told = c.args.self.now in
-    let world = run told.config told.events in
-    let none = ⊎_elim
-    (λ hears. subst (λ (e : Event). IsNone (deed_after told e)) (sym hears.1) (none_hears told.config world hears.0))
-    (λ starts. subst (λ (e : Event). IsNone (deed_after told e)) (sym starts) (none_starts told.config world))
-    c.in-Hear.is in
-    (λ is. none, λ gone. refl)
+    let legal = subst (λ (t : Told). IsLegal t.config t.events) c.self.view_is c.legal.ensures in
+    subst (λ (e : Event). IsEventOfCoord told e coord_event.Start) (sym c.in-Start.is) (of_start told.config (run told.config told.events) legal.enabled)

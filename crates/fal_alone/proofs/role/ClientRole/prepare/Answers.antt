@@ -1,6 +1,7 @@
-use Rattle.std.proofs.Common.{rules}
+use Rattle.std.proofs.Common.{rules, refl}
 use Rattle.fal_client.specs.Step.{client_step}
-use Rattle.fal_alone.proofs.Roles.{client_prepared, none_client, client_none}
+use Rattle.fal_story.specs.Machines.{client_made}
+use Rattle.fal_alone.proofs.Roles.{client_prepared, nothing_made, no_work}
 use Rattle.fal_alone.proofs.role.ClientRole.prepare.Goals as goal
 
 pub returns-clause-ok : goal.returns-clause-ok
@@ -9,9 +10,9 @@ returns-clause-ok c =
     c.in_ok-prepared.ensures.ok c.ready.ensures.same c.take_outputs-outputs.ensures.patch c.take_outputs-outputs.ensures.outputs
 
 pub returns-clause-refused : goal.returns-clause-refused
-returns-clause-refused c = (λ is. absurd (cc), λ none. let wrong = c.in_ok-prepared.ensures.refused.1 (client_none _ none) in absurd (cc))
+returns-clause-refused c = (λ is. absurd (cc), λ none. let wrong = c.in_ok-prepared.ensures.refused.1 (no_work client_made (λ _. refl) _ none) in absurd (cc))
 
 pub returns-in_err-prepared-clause-refused : goal.returns-in_err-prepared-clause-refused
 returns-in_err-prepared-clause-refused c =
     let there = c.in_err-prepared.ensures.refused in
-    (λ is. none_client _ (there.0 (search rules)), λ none. let refused = there.1 (client_none _ none) in search rules)
+    (λ is. nothing_made client_made refl _ (there.0 (search rules)), λ none. let refused = there.1 (no_work client_made (λ _. refl) _ none) in search rules)

@@ -1,8 +1,8 @@
-use Rattle.std.proofs.Common.{ap, sym, ◌∙◌, rules}
+use Rattle.std.proofs.Common.{ap, sym, ◌∙◌, refl, rules}
 use Rattle.fal_node.specs.State.{NodeState}
 use Rattle.fal_node.specs.Step.{node_step}
 use Rattle.fal_story.specs.Machines.{node_made}
-use Rattle.fal_alone.proofs.Roles.{node_prepared, none_node, node_none}
+use Rattle.fal_alone.proofs.Roles.{node_prepared, nothing_made, no_work}
 use Rattle.fal_alone.proofs.role.NodeRole.prepare.Goals as goal
 
 pub returns-clause-ok : goal.returns-clause-ok
@@ -12,9 +12,9 @@ returns-clause-ok c =
     c.in_ok-prepared.ensures.ok c.take_outputs-outputs.ensures.patch c.take_outputs-outputs.ensures.outputs
 
 pub returns-clause-refused : goal.returns-clause-refused
-returns-clause-refused c = (λ is. absurd (cc), λ none. let wrong = c.in_ok-prepared.ensures.refused.1 (node_none _ none) in absurd (cc))
+returns-clause-refused c = (λ is. absurd (cc), λ none. let wrong = c.in_ok-prepared.ensures.refused.1 (no_work node_made (λ _. refl) _ none) in absurd (cc))
 
 pub returns-in_err-prepared-clause-refused : goal.returns-in_err-prepared-clause-refused
 returns-in_err-prepared-clause-refused c =
     let there = c.in_err-prepared.ensures.refused in
-    (λ is. none_node _ (there.0 (search rules)), λ none. let refused = there.1 (node_none _ none) in search rules)
+    (λ is. nothing_made node_made refl _ (there.0 (search rules)), λ none. let refused = there.1 (no_work node_made (λ _. refl) _ none) in search rules)

@@ -1,0 +1,4 @@
+pub mod Counts
+pub mod InTrees
+pub mod Reading
+pub mod Within

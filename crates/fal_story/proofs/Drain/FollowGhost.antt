@@ -1,0 +1,36 @@
+-- The call that is under way is the ghost's.
+use Rattle.std.proofs.Common.{◌≡◌, ⊎_elim, ℕ, Bool, true, sym, ap, subst, ◌∙◌, arith}
+use Rattle.fal_base.specs.declared.call.CallId.{CallId}
+use Rattle.fal_base.specs.declared.call.CallRec.{CallRec}
+use Rattle.fal_base.specs.declared.call.Config.{Config}
+use Rattle.fal_base.specs.declared.event.Actor.TheVariants.{Node}
+use Rattle.fal_base.specs.Marks.{mark_of, last_mark, is_newer}
+use Rattle.fal_wait.specs.Waiting.{is_new}
+use Rattle.fal_wire.specs.declared.message.Message.TheVariants as message
+use Rattle.fal_story.proofs.Drain.Follow.{IsUnder, Asked, Waiting, Planned, Answered}
+use Rattle.fal_story.proofs.Events.Shows.{Ghost, Shows, WaitsAt, PlannedAt, calls_in, posts_of}
+use Rattle.fal_story.proofs.Lists.Members.{each_in}
+use Rattle.fal_story.proofs.Phase as place
+use Rattle.fal_story.proofs.View.{IsPosted}
+use Rattle.fal_story.specs.World.{World}
+
+-- a record that is newer is that of the call under way
+pub asked_by : (config : Config) (w : World) (n : ℕ) (h : Ghost) (e p : ℕ) (c : CallRec) → Shows config w h → IsPosted (posts_of w.envelopes) e (Node n) p (message.Call c) → is_new (w.nodes n).waiting c ≡ true
+    → (c ≡ h.call c.id.client) × (h.phase c.id.client ≡ place.Asked n)
+asked_by config w n h e p c s at newer = ⊎_elim (λ y. y) (λ old. absurd (cc)) (s.good.records.requests e n p c at)
+
+-- a lane's last call that is under way, while its record to a node was not taken yet
+pub live_is : (config : Config) (w : World) (came : ℕ → Bool) (n : ℕ) (h : Ghost) (id : CallId) → Shows config w h → IsUnder (posts_of w.envelopes) came w.nodes id → id.seq ≡ (w.clients id.client).seq
+    → h.phase id.client ≡ place.Asked n → id ≡ (h.call id.client).id
+live_is config w came n h id s (Asked k p m call at fresh is newer) last asked =
+    let new : is_new (w.nodes m).waiting call ≡ true = subst (λ (j : CallId). is_newer (mark_of j) (last_mark (w.nodes m).waiting.last j.client) ≡ true) (sym is) newer in
+    sym is ∙ ap (λ (c : CallRec). c.id) (asked_by config w m h k p call s at new).0 ∙ ap (λ (j : CallId). (h.call j.client).id) is
+live_is config w came n h id s (Waiting m x at is) last asked =
+    sym is ∙ ap (λ (c : CallRec). c.id) (each_in (WaitsAt h.call h.phase m) (w.nodes m).waiting.calls x (s.held m).waiters at).1 ∙ ap (λ (j : CallId). (h.call j.client).id) is
+live_is config w came n h id s (Planned m x at is) last asked =
+    sym is ∙ ap (λ (c : CallRec). c.id) (each_in (PlannedAt h.call h.phase m) (calls_in (w.nodes m).batches) x (s.held m).planned at).1 ∙ ap (λ (j : CallId). (h.call j.client).id) is
+live_is config w came n h id s (Answered k p reply at fresh) last asked =
+    absurd (⊎_elim
+    (λ low. omega arith)
+    (λ z. ⊎_elim (λ idle. let wrong : place.Asked n ≡ place.Idle = sym asked ∙ idle in cc) (λ told. let wrong : place.Asked n ≡ place.Tells (place.Replies p reply) = sym asked ∙ told in cc) z.1)
+    (s.good.records.responses k id.client p (message.Reply id reply) at).1)
