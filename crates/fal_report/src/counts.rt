@@ -82,9 +82,9 @@ fn files(rows: &[TreeLine]) -> usize
         .count()
 }
 
-// Appends a line with a label and a number.
+/// Appends a line with a label and a number. Refused for want of memory alone; the buffer may then have a part of the line.
 #[tactic(auto, unfolding(crate::specs::Counts::count_text))]
-pub(crate) fn put_count(out: &mut Vec<u8>, label: &[u8], n: u64) -> Result<(), OutOfMemory>
+pub fn put_count(out: &mut Vec<u8>, label: &[u8], n: u64) -> Result<(), OutOfMemory>
     ensures { OnOk result (out.new.items ≡ out.old.items ++ count_text label.now n) }
 {
     put(out, label)?;

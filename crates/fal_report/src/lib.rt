@@ -12,4 +12,5 @@ mod rows;
 mod text;
 
 pub use calls::put_call;
+pub use counts::put_count;
 pub use text::{summary_of, text_of};

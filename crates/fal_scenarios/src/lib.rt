@@ -6,7 +6,7 @@
 //! | Line | Means |
 //! |---|---|
 //! | `nodes N`, `lanes N`, `batch N` | how many nodes, lanes, and calls in a batch; 1 where there is no such line |
-//! | `call LANE UID:GID OPERATION ARGUMENTS` | a lane's next call, as in a script; also `rmdir PATH`, `list PATH`, `rename OLD NEW`, `chmod PATH MODE`, `chown PATH UID GID`, `place NAME RULE` with RULE `hash`, `parent` or a node |
+//! | `call LANE UID:GID OPERATION ARGUMENTS` | a lane's next call, as in a script, of any operation |
 //! | `calls COUNT from SEED` | random calls, on lane after lane |
 //!
 //! An operation that no cluster serves yet is refused with `MayNotRun` at the first line after these. That line opens the cluster, and

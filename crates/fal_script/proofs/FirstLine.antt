@@ -1,13 +1,8 @@
 -- Where the first line of some bytes ends.
-use Rattle.std.proofs.Common.{◌≡◌, ◌≢◌, ℕ, zero, suc, ◌<◌, true, false, List, [], ◌∷◌, length, get_or, take, drop, Option, Some, None, refl, ap, ◌∙◌, arith, eqb}
-use Rattle.std.specs.Option.{option_map}
+use Rattle.std.proofs.Common.{◌≡◌, ◌≢◌, ℕ, nat_eq, zero, suc, ◌<◌, true, false, List, [], ◌∷◌, length, get_or, take, drop, Some, None, refl, ap, ◌∙◌, arith, eqb}
 use Rattle.std.proofs.lemmas.Bool.Decides.{nat_tests}
 use Rattle.std.proofs.lemmas.Grind.{common_steps}
-use Rattle.fal_script.specs.Lines.{text_lines, longer, ended, Cuts, EndsAt}
-
-longer_first : (b : ℕ) (line : List ℕ) (lines : Option (List (List ℕ))) → longer b (option_map (λ ls. line ∷ ls) lines) ≡ option_map (λ ls. (b ∷ line) ∷ ls) lines
-longer_first b line None = refl
-longer_first b line (Some lines) = refl
+use Rattle.fal_script.specs.Lines.{text_lines, longer, Cuts, EndsAt}
 
 same_byte : (b : ℕ) → b ≡ 10 → eqb b 10 ≡ true
 same_byte b is = grind (arith, nat_tests)
@@ -16,22 +11,21 @@ other_byte : (b : ℕ) → b ≢ 10 → eqb b 10 ≡ false
 other_byte b is = grind (arith, nat_tests)
 
 -- the first line, and then those of the rest
-pub first_line : (bytes : List ℕ) (at : ℕ) → at < length bytes → get_or bytes at 0 ≡ 10 → ((k : ℕ) → k < at → get_or bytes k 0 ≢ 10)
-    → text_lines bytes ≡ option_map (λ lines. take at bytes ∷ lines) (text_lines (drop (suc at) bytes))
+first_line : (bytes : List ℕ) (at : ℕ) → at < length bytes → get_or bytes at 0 ≡ 10 → ((k : ℕ) → k < at → get_or bytes k 0 ≢ 10)
+    → text_lines bytes ≡ take at bytes ∷ text_lines (drop (suc at) bytes)
 first_line [] at within is before = absurd (omega arith)
 first_line (b ∷ bs) zero within is before = rw (same_byte b is) refl
 first_line (b ∷ bs) (suc at) within is before =
     rw (other_byte b (before 0 (omega arith)))
-    (ap (longer b) (first_line bs at (omega arith) is (λ k lt. before (suc k) (omega arith))) ∙ longer_first b (take at bs) (text_lines (drop (suc at) bs)))
+    (ap (longer b) (first_line bs at (omega arith) is (λ k lt. before (suc k) (omega arith))))
 
--- no line feed, no line
-pub no_line : (bytes : List ℕ) → ((k : ℕ) → k < length bytes → get_or bytes k 0 ≢ 10) → text_lines bytes ≡ ended bytes
-no_line [] none = refl
-no_line (b ∷ []) none = rw (other_byte b (none 0 (omega arith))) refl
-no_line (b ∷ c ∷ bs) none =
-    rw (other_byte b (none 0 (omega arith))) (ap (longer b) (no_line (c ∷ bs) (λ k lt. none (suc k) (omega arith))))
+-- no line feed: all bytes are one line
+only_line : (b : ℕ) (bytes : List ℕ) → ((k : ℕ) → k < length (b ∷ bytes) → get_or (b ∷ bytes) k 0 ≢ 10) → text_lines (b ∷ bytes) ≡ (b ∷ bytes) ∷ []
+only_line b [] none = rw (other_byte b (none 0 (omega arith))) refl
+only_line b (c ∷ bs) none =
+    rw (other_byte b (none 0 (omega arith))) (ap (longer b) (only_line c bs (λ k lt. none (suc k) (omega arith))))
 
-pub drop_one : (bytes : List ℕ) (at : ℕ) → drop 1 (drop at bytes) ≡ drop (suc at) bytes
+drop_one : (bytes : List ℕ) (at : ℕ) → drop 1 (drop at bytes) ≡ drop (suc at) bytes
 drop_one [] zero = refl
 drop_one [] (suc at) = refl
 drop_one (b ∷ bs) zero = refl
@@ -47,3 +41,11 @@ cut_some bytes line mid rest at ends front back after =
   where
     shorter : (bytes rest : List ℕ) (at : ℕ) → at < length bytes → rest ≡ drop (suc at) bytes → length rest < length bytes
     shorter bytes rest at within left = grind (arith, common_steps)
+
+-- cut after all bytes, where there are some and no line feed
+pub cut_all : (bytes line rest : List ℕ) (n : ℕ) → nat_eq (length bytes) 0 ≡ false → EndsAt bytes None → n ≡ length bytes → line ≡ take n bytes → rest ≡ drop n bytes → Cuts bytes (Some (line, rest))
+cut_all [] line rest n some none all front left = absurd (cc)
+cut_all (b ∷ bytes) line rest n some none all front left =
+    let first : line ≡ b ∷ bytes = grind (arith, common_steps) in
+    let last : rest ≡ [] = grind (arith, common_steps) in
+    rw (first, last) (only_line b bytes none, omega arith)

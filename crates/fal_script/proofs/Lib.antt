@@ -1,4 +1,11 @@
 pub mod FirstLine
+pub mod GoodPaths
+pub mod InRange
 pub mod Lanes
-pub mod Ranges
+mod Ranges
+mod Pieces
+mod Printable
+mod ReadBack
+mod Results
 mod Rows
+mod Unescaped

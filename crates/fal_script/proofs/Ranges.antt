@@ -1,33 +1,32 @@
--- What holds of each script that is read.
-use Rattle.std.proofs.Common.{◌≡◌, ℕ, zero, suc, ◌+◌, ◌-◌, ◌*◌, ◌<◌, ◌≤◌, ◌^◌, Bool, true, false, ◌&&◌, cond, nat_le, List, [], ◌∷◌, Option, None, Some, slice_get, refl, sym, subst, arith}
-use Rattle.std.specs.Prelude.{codes}
-use Rattle.std.specs.Option.{option_map}
+-- What holds of each call that is read: its numbers are in range, and its paths are what bytes spell.
+use Rattle.std.proofs.Common.{◌≡◌, ℕ, ◌<◌, ◌≤◌, ◌^◌, Bool, true, false, cond, ◌&&◌, nat_le, List, [], ◌∷◌, Option, None, Some, Result, Ok, Err, refl, sym, subst, ap, arith}
+use Rattle.std.specs.List.{AllByRecursion, slice_split}
+use Rattle.std.specs.Prelude.{codes, IsTrue, is_ok, ◌==◌}
 use Rattle.std.proofs.lemmas.Bool.{and_parts, leb-true}
 use Rattle.std.proofs.lemmas.Option.{cond_some, none-some, option_and_then_some, same_Some}
-use Rattle.fal_base.specs.declared.call.Call.{Call}
 use Rattle.fal_base.specs.declared.call.Cred.{Cred}
+use Rattle.fal_base.specs.declared.name.NameFault.{NameFault}
+use Rattle.fal_base.specs.declared.name.NameFault.TheVariants.{Empty, TooLong, Slash, ZeroByte, Dot}
 use Rattle.fal_base.specs.declared.op.Op.{Op}
+use Rattle.fal_base.specs.declared.op.Op.TheVariants as op
 use Rattle.fal_base.specs.declared.path.PathArg.{PathArg}
+use Rattle.fal_base.specs.declared.rule.Rule.{Rule}
+use Rattle.fal_base.specs.declared.rule.Rule.TheVariants.{Hash, ByParent, Node}
+use Rattle.fal_base.specs.Names.{is_name, has_fault, name_of, name_unless}
 use Rattle.fal_base.specs.PathArgs.{path_arg_of}
-use Rattle.fal_script.specs.declared.script.Script.{Script}
 use Rattle.fal_script.specs.declared.script.ScriptCall.{ScriptCall}
-use Rattle.fal_script.specs.declared.words.Verb.{Verb}
-use Rattle.fal_script.specs.declared.words.Verb.TheVariants.{Mkdir, Create, Stat, Access, Truncate, Unlink}
-use Rattle.fal_script.specs.Numbers.{is_number, value_after, number_up_to, from_one, number_from_one, is_octal, spelled_mode}
-use Rattle.fal_script.specs.Calls.{is_word, is_path_spelling, spelled_path, cred_parts, cred_word, verb_word, path_argument, two_arguments, op_words, verb_call, count_word, lane_word, on_lane, call_words}
-use Rattle.fal_script.specs.Lines.{text_lines}
-use Rattle.fal_script.specs.Script.{words_of, line_call, with_first, calls_of, labelled, count, both, header, with_calls, headed, script_of}
-use Rattle.fal_script.specs.Ranges.{IsSpelled, IsSpelledOp, IsSpelledCall, IsSpelledLine, IsSpelledScript}
+use Rattle.fal_script.specs.declared.verbs.Verb.{Verb}
+use Rattle.fal_script.specs.declared.verbs.Verb.TheVariants as verb
+use Rattle.fal_script.specs.Arguments.{cred_parts, cred_word, bytes_word, path_word, judged_name, name_word, mode_word, number_word, node_parts, spelled_rule, rule_word}
+use Rattle.fal_script.specs.Calls.{path_words, path_number_words, path_owner_words, two_path_words, name_rule_words, op_words, call_words}
+use Rattle.fal_script.specs.Numbers.{is_number, value_after, number_up_to, from_one, number_from_one, is_mode, octal_after, spelled_mode}
+use Rattle.fal_script.specs.Ranges.{IsSpelled, IsSpelledRule, IsOpOf, IsLineOf}
+use Rattle.fal_script.specs.ReadAs.{or_rule, ◌=>>◌}
+use Rattle.fal_script.specs.Verbs.{is_served_verb, if_served, served_word, verb_word, verb_of}
+use Rattle.fal_script.specs.Words.{is_word}
+use Rattle.fal_script.proofs.Results.{let_through, mapped, err-ok, same_Ok, ruled, both_read}
 
--- what a test lets through has passed it
-let_through : {X : Type 0} (b : Bool) (o : Option X) (r : X) → cond b o None ≡ Some r → o ≡ Some r
-let_through true o r is = is
-let_through false o r is = absurd (none-some r is)
-
-module _ {X Y Z : Type 0} where
-  mapped : (f : X → Y) (o : Option X) (r : Y) → option_map f o ≡ Some r → ((x : X) → o ≡ Some x → f x ≡ r → Z) → Z
-  mapped f None r is then = absurd (none-some _ is)
-  mapped f (Some x) r is then = then x refl (same_Some (f x) r is)
+-- ---- numbers
 
 number_small : (most : ℕ) (word : List ℕ) (n : ℕ) → number_up_to most word ≡ Some n → n ≤ most
 unfolding number_up_to
@@ -35,37 +34,33 @@ number_small most word n is =
     let found = cond_some (is_number word && nat_le (value_after 0 word) most) (value_after 0 word) n is in
     subst (λ v. v ≤ most) found.1 (leb-true (value_after 0 word) most (and_parts _ _ found.0).1)
 
-record IsFromOne (most n : ℕ) : Type 0 where
-  some : 1 ≤ n
-  within : n ≤ most
+pub record IsFromOne (most n : ℕ) : Type 0 where
+  pub some : 1 ≤ n
+  pub within : n ≤ most
 
 from_one_small : (most : ℕ) (o : Option ℕ) (n : ℕ) → ((m : ℕ) → o ≡ Some m → m ≤ most) → from_one o ≡ Some n → IsFromOne most n
 from_one_small most None n small is = absurd (none-some _ is)
 from_one_small most (Some m) n small is =
     let found = cond_some (nat_le 1 m) m n is in subst (IsFromOne most) found.1 (record { some = leb-true 1 m found.0; within = small m refl })
 
-counted_small : (most : ℕ) (word : List ℕ) (n : ℕ) → number_from_one most word ≡ Some n → IsFromOne most n
+pub counted_small : (most : ℕ) (word : List ℕ) (n : ℕ) → number_from_one most word ≡ Some n → IsFromOne most n
 unfolding number_from_one
 counted_small most word n is = from_one_small most (number_up_to most word) n (number_small most word) is
 
-octal_small : (d : ℕ) → is_octal d ≡ true → d ≤ 55
-octal_small d is = leb-true d 55 (and_parts _ _ is).1
+mode_small : (word : List ℕ) (n : ℕ) → mode_word word ≡ Ok n → n < 512
+unfolding spelled_mode mode_word
+mode_small word n is =
+    let found = cond_some (is_mode word && nat_le (octal_after 0 word) 511) (octal_after 0 word) n (ruled 11 (spelled_mode word) n is) in
+    subst (λ v. v < 512) found.1 (below (octal_after 0 word) (leb-true (octal_after 0 word) 511 (and_parts _ _ found.0).1))
+  where
+    below : (v : ℕ) → v ≤ 511 → v < 512
+    below v low = omega arith
 
-mode_small : (word : List ℕ) (n : ℕ) → spelled_mode word ≡ Some n → n < 512
-unfolding spelled_mode
-mode_small [] n is = absurd (none-some _ is)
-mode_small (a ∷ []) n is = absurd (none-some _ is)
-mode_small (a ∷ b ∷ []) n is = absurd (none-some _ is)
-mode_small (a ∷ b ∷ c ∷ []) n is =
-    let found = cond_some (is_octal a && is_octal b && is_octal c) (64 * (a - 48) + 8 * (b - 48) + (c - 48)) n is in
-    let all = and_parts (is_octal a && is_octal b) (is_octal c) found.0 in
-    let front = and_parts (is_octal a) (is_octal b) all.0 in
-    let first : a ≤ 55 = octal_small a front.0 in
-    let second : b ≤ 55 = octal_small b front.1 in
-    let third : c ≤ 55 = octal_small c all.1 in
-    let value = found.1 in
-    omega (arith, first, second, third, value)
-mode_small (a ∷ b ∷ c ∷ d ∷ ds) n is = absurd (none-some _ is)
+word_small : (most : ℕ) (word : List ℕ) (n : ℕ) → number_word most word ≡ Ok n → n ≤ most
+unfolding number_word
+word_small most word n is = number_small most word n (ruled 11 (number_up_to most word) n is)
+
+-- ---- callers, paths, names and rules
 
 record IsSpelledCred (cred : Cred) : Type 0 where
   uid : cred.uid < 2 ^ 32
@@ -86,138 +81,179 @@ cred_small : (word : List ℕ) (cred : Cred) → cred_word word ≡ Some cred �
 unfolding cred_word
 cred_small word cred is = parts_small _ cred is
 
-path_spelled : (word : List ℕ) (path : PathArg) → spelled_path word ≡ Some path → IsSpelled path
-unfolding spelled_path
-path_spelled word path is = (word, sym (cond_some (is_path_spelling word) (path_arg_of word) path is).1)
+pub path_spelled : (word : List ℕ) (path : PathArg) → path_word word ≡ Ok path → IsSpelled path
+unfolding path_word
+path_spelled word path is = both_read (bytes_word word) (λ bytes. Ok (path_arg_of bytes)) path is (λ bytes some rest. (bytes, sym (same_Ok (path_arg_of bytes) path rest)))
 
-one_spelled : (words : List (List ℕ)) (path : PathArg) → path_argument words ≡ Some path → IsSpelled path
-unfolding path_argument
-one_spelled [] path is = absurd (none-some _ is)
-one_spelled (a ∷ []) path is = path_spelled a path is
-one_spelled (a ∷ b ∷ words) path is = absurd (none-some _ is)
-
--- a path, and a number of which something holds that holds of all of its form
-record IsPair (P : ℕ → Type 0) (pair : PathArg × ℕ) : Type 0 where
-  path : IsSpelled pair.0
-  number : P pair.1
-
-two_spelled : (form : List ℕ → Option ℕ) (P : ℕ → Type 0) → ((word : List ℕ) (n : ℕ) → form word ≡ Some n → P n) → (words : List (List ℕ)) (pair : PathArg × ℕ)
-    → two_arguments form words ≡ Some pair → IsPair P pair
-unfolding two_arguments
-two_spelled form P holds [] pair is = absurd (none-some _ is)
-two_spelled form P holds (a ∷ []) pair is = absurd (none-some _ is)
-two_spelled form P holds (a ∷ b ∷ []) pair is =
-    option_and_then_some _ (spelled_path a) pair is (λ p first rest.
-    mapped _ (form b) pair rest (λ n second same. subst (IsPair P) same (record { path = path_spelled a p first; number = holds b n second })))
-two_spelled form P holds (a ∷ b ∷ c ∷ words) pair is = absurd (none-some _ is)
-
-op_spelled : (verb : Verb) (arguments : List (List ℕ)) (op : Op) → op_words verb arguments ≡ Some op → IsSpelledOp op
-op_spelled Mkdir arguments op is =
-    mapped _ (two_arguments spelled_mode arguments) op is (λ pair first same.
-    let pair_is = two_spelled spelled_mode (λ n. n < 512) mode_small arguments pair first in subst IsSpelledOp same (pair_is.path, pair_is.number))
-op_spelled Create arguments op is =
-    mapped _ (two_arguments spelled_mode arguments) op is (λ pair first same.
-    let pair_is = two_spelled spelled_mode (λ n. n < 512) mode_small arguments pair first in subst IsSpelledOp same (pair_is.path, pair_is.number))
-op_spelled Stat arguments op is = mapped _ (path_argument arguments) op is (λ path first same. subst IsSpelledOp same (one_spelled arguments path first))
-op_spelled Access arguments op is =
-    mapped _ (two_arguments (number_up_to 7) arguments) op is (λ pair first same.
-    let pair_is = two_spelled (number_up_to 7) (λ n. n ≤ 7) (number_small 7) arguments pair first in subst IsSpelledOp same (pair_is.path, omega (arith, pair_is.number)))
-op_spelled Truncate arguments op is =
-    mapped _ (two_arguments (number_up_to 9223372036854775807) arguments) op is (λ pair first same.
-    let pair_is = two_spelled (number_up_to 9223372036854775807) (λ n. n ≤ 9223372036854775807) (number_small 9223372036854775807) arguments pair first in
-    subst IsSpelledOp same (pair_is.path, omega (arith, pair_is.number)))
-op_spelled Unlink arguments op is = mapped _ (path_argument arguments) op is (λ path first same. subst IsSpelledOp same (one_spelled arguments path first))
-
-call_spelled : (cred : Option Cred) (verb : Option Verb) (arguments : List (List ℕ)) (call : Call) → ((c : Cred) → cred ≡ Some c → IsSpelledCred c) → verb_call cred verb arguments ≡ Some call → IsSpelledCall call
-call_spelled None verb arguments call small is = absurd (none-some _ is)
-call_spelled (Some cred) None arguments call small is = absurd (none-some _ is)
-call_spelled (Some cred) (Some verb) arguments call small is =
-    let caller = small cred refl in
-    mapped _ (op_words verb arguments) call is (λ op first same. subst IsSpelledCall same (record { uid = caller.uid; gid = caller.gid; op = op_spelled verb arguments op first }))
-
-on_lane_spelled : (lanes : ℕ) (lane : Option ℕ) (call : Option Call) (line : ScriptCall) → ((n : ℕ) → lane ≡ Some n → IsFromOne lanes n) → ((c : Call) → call ≡ Some c → IsSpelledCall c)
-    → on_lane lane call ≡ Some line → IsSpelledLine lanes line
-on_lane_spelled lanes None call line within spelled is = absurd (none-some _ is)
-on_lane_spelled lanes (Some lane) call line within spelled is =
-    let here = within lane refl in
-    mapped _ call line is (λ c first same. subst (IsSpelledLine lanes) same (record { from_one = here.some; within = here.within; call = spelled c first }))
-
-words_spelled : (lanes : ℕ) (words : List (List ℕ)) (line : ScriptCall) → call_words lanes words ≡ Some line → IsSpelledLine lanes line
-words_spelled lanes [] line is = absurd (none-some _ is)
-words_spelled lanes (a ∷ []) line is = absurd (none-some _ is)
-words_spelled lanes (a ∷ b ∷ []) line is = absurd (none-some _ is)
-words_spelled lanes (a ∷ b ∷ c ∷ words) line is =
-    on_lane_spelled lanes (lane_word lanes a) (verb_call (cred_word b) (verb_word c) words) line (counted_small lanes a)
-    (λ call. call_spelled (cred_word b) (verb_word c) words call (cred_small b)) is
-
-line_spelled : (lanes : ℕ) (bytes : List ℕ) (line : ScriptCall) → line_call lanes bytes ≡ Some line → IsSpelledLine lanes line
-unfolding line_call
-line_spelled lanes bytes line is = option_and_then_some (call_words lanes) (words_of bytes) line is (λ words first rest. words_spelled lanes words line rest)
-
-record AreSpelled (lanes : ℕ) (calls : List ScriptCall) : Type 0 where
-  at : (j : ℕ) (line : ScriptCall) → slice_get calls j ≡ Some line → IsSpelledLine lanes line
-
-none_spelled : (lanes : ℕ) → AreSpelled lanes []
-none_spelled lanes = record { at = λ j line at. absurd (none-some line at) }
-
-one_more : (lanes : ℕ) (call : ScriptCall) (calls : List ScriptCall) → IsSpelledLine lanes call → AreSpelled lanes calls → AreSpelled lanes (call ∷ calls)
-one_more lanes call calls first rest = record { at = each }
+-- bytes that are a name are that name
+pub named_is : (faults : List NameFault) (bytes : List ℕ) (name : List ℕ) → judged_name (name_unless faults bytes) ≡ Ok name → (name_unless faults bytes ≡ Ok bytes) × (bytes ≡ name)
+named_is [] bytes name is = (refl, same_Ok bytes name is)
+named_is (fault ∷ faults) bytes name is = by (has_fault fault bytes) (named_is faults bytes name) is
   where
-    each : (j : ℕ) (line : ScriptCall) → slice_get (call ∷ calls) j ≡ Some line → IsSpelledLine lanes line
-    each zero line at = subst (IsSpelledLine lanes) (same_Some call line at) first
-    each (suc j) line at = rest.at j line at
+    by : (b : Bool) → (judged_name (name_unless faults bytes) ≡ Ok name → (name_unless faults bytes ≡ Ok bytes) × (bytes ≡ name)) → judged_name (cond b (Err fault) (name_unless faults bytes)) ≡ Ok name
+        → (cond b (Err fault) (name_unless faults bytes) ≡ Ok bytes) × (bytes ≡ name)
+    by true more is = absurd (err-ok 12 name is)
+    by false more is = more is
 
-joined_spelled : (lanes : ℕ) (call : Option ScriptCall) (calls : Option (List ScriptCall)) (all : List ScriptCall) → ((line : ScriptCall) → call ≡ Some line → IsSpelledLine lanes line)
-    → ((cs : List ScriptCall) → calls ≡ Some cs → AreSpelled lanes cs) → with_first call calls ≡ Some all → AreSpelled lanes all
-joined_spelled lanes None calls all first rest is = absurd (none-some _ is)
-joined_spelled lanes (Some call) calls all first rest is =
-    mapped _ calls all is (λ cs some same. subst (AreSpelled lanes) same (one_more lanes call cs (first call refl) (rest cs some)))
+pub name_spelled : (word : List ℕ) (name : List ℕ) → name_word word ≡ Ok name → IsTrue (is_name name)
+unfolding name_word is_name
+name_spelled word name is = both_read (bytes_word word) (λ bytes. judged_name (name_of bytes)) name is (λ bytes some rest.
+    let found = named_is (Empty ∷ TooLong ∷ Slash ∷ ZeroByte ∷ Dot ∷ []) bytes name rest in subst (λ n. is_ok (name_of n) ≡ true) found.1 (ap is_ok found.0))
 
-calls_spelled : (lanes : ℕ) (lines : List (List ℕ)) (calls : List ScriptCall) → calls_of lanes lines ≡ Some calls → AreSpelled lanes calls
-calls_spelled lanes [] calls is = subst (AreSpelled lanes) (same_Some [] calls is) (none_spelled lanes)
-calls_spelled lanes (line ∷ lines) calls is = joined_spelled lanes (line_call lanes line) (calls_of lanes lines) calls (line_spelled lanes line) (calls_spelled lanes lines) is
+node_spelled : (parts : List (List ℕ)) (rule : Rule) → node_parts parts ≡ Some rule → IsSpelledRule rule
+node_spelled [] rule is = absurd (none-some _ is)
+node_spelled (a ∷ []) rule is = absurd (none-some _ is)
+node_spelled (a ∷ b ∷ []) rule is =
+    mapped (λ k. Node k) (number_up_to 65535 b) rule (let_through (is_word (codes "node") a) _ rule is).1
+    (λ k some same. let low = number_small 65535 b k some in subst IsSpelledRule same (omega (arith, low)))
+node_spelled (a ∷ b ∷ c ∷ parts) rule is = absurd (none-some _ is)
 
-labelled_small : (label : List ℕ) (words : List (List ℕ)) (n : ℕ) → labelled label words ≡ Some n → IsFromOne 16 n
-labelled_small label [] n is = absurd (none-some _ is)
-labelled_small label (a ∷ []) n is = absurd (none-some _ is)
-labelled_small label (a ∷ b ∷ []) n is = counted_small 16 b n (let_through (is_word label a) (count_word b) n is)
-labelled_small label (a ∷ b ∷ c ∷ words) n is = absurd (none-some _ is)
+one_of_two : {X : Type 0} (P : X → Type 0) (b c : Bool) (x y : X) (o : Option X) (r : X) → P x → P y → (o ≡ Some r → P r)
+    → cond b (Some x) (cond c (Some y) o) ≡ Some r → P r
+one_of_two P true c x y o r first second third is = subst P (same_Some x r is) first
+one_of_two P false true x y o r first second third is = subst P (same_Some y r is) second
+one_of_two P false false x y o r first second third is = third is
 
-count_small : (label line : List ℕ) (n : ℕ) → count label line ≡ Some n → IsFromOne 16 n
-unfolding count
-count_small label line n is = option_and_then_some (labelled label) (words_of line) n is (λ words first rest. labelled_small label words n rest)
+rule_spelled : (word : List ℕ) (rule : Rule) → rule_word word ≡ Ok rule → IsSpelledRule rule
+unfolding rule_word spelled_rule
+rule_spelled word rule is =
+    one_of_two IsSpelledRule (is_word (codes "hash") word) (is_word (codes "parent") word) Hash ByParent _ rule tt tt (node_spelled (slice_split (λ b. b == 58) word) rule) (ruled 13 (spelled_rule word) rule is)
 
-record AreCounts (counts : ℕ × ℕ) : Type 0 where
-  nodes : IsFromOne 16 counts.0
-  lanes : IsFromOne 16 counts.1
+-- ---- arguments
 
-both_small : (nodes lanes : Option ℕ) (counts : ℕ × ℕ) → ((n : ℕ) → nodes ≡ Some n → IsFromOne 16 n) → ((n : ℕ) → lanes ≡ Some n → IsFromOne 16 n) → both nodes lanes ≡ Some counts → AreCounts counts
-both_small None lanes counts first second is = absurd (none-some _ is)
-both_small (Some nodes) lanes counts first second is =
-    mapped _ lanes counts is (λ l some same. subst AreCounts same (record { nodes = first nodes refl; lanes = second l some }))
+-- where each word has some property, paths and names of such words have theirs
+module _ (Word : List ℕ → Type 0) (Path : PathArg → Type 0) (Name : List ℕ → Type 0) (of_path : (word : List ℕ) (path : PathArg) → Word word → path_word word ≡ Ok path → Path path)
+    (of_name : (word name : List ℕ) → Word word → name_word word ≡ Ok name → Name name) where
+  one_spelled : (words : List (List ℕ)) (path : PathArg) → AllByRecursion Word words → path_words words ≡ Ok path → Path path
+  unfolding path_words
+  one_spelled [] path are is = absurd (err-ok _ _ is)
+  one_spelled (a ∷ []) path are is = of_path a path are.0 is
+  one_spelled (a ∷ b ∷ words) path are is = absurd (err-ok _ _ is)
 
-header_small : (first second third : List ℕ) (counts : ℕ × ℕ) → header first second third ≡ Some counts → AreCounts counts
-unfolding header
-header_small first second third counts is =
-    both_small _ _ counts (count_small (codes "nodes") second) (count_small (codes "lanes") third) (let_through (is_word (codes "falcon-script 1") first) _ counts is)
+  -- a path, and a number of which something holds that holds of all of its form
+  record IsPair (P : ℕ → Type 0) (pair : PathArg × ℕ) : Type 0 where
+    path : Path pair.0
+    number : P pair.1
 
-counted_in_range : (lines : List (List ℕ)) (counts : ℕ × ℕ) (script : Script) → AreCounts counts → with_calls lines counts ≡ Some script → IsSpelledScript script
-counted_in_range lines (nodes, lanes) script small is =
-    mapped _ (calls_of lanes lines) script is (λ calls some same. subst IsSpelledScript same (record {
-      some_nodes = small.nodes.some;
-      nodes = small.nodes.within;
-      some_lanes = small.lanes.some;
-      lanes = small.lanes.within;
-      lines = (calls_spelled lanes lines calls some).at;
-    }))
+  pair_spelled : (form : List ℕ → Result ℕ ℕ) (P : ℕ → Type 0) → ((word : List ℕ) (n : ℕ) → form word ≡ Ok n → P n) → (words : List (List ℕ)) (pair : PathArg × ℕ)
+      → AllByRecursion Word words → path_number_words form words ≡ Ok pair → IsPair P pair
+  unfolding path_number_words
+  pair_spelled form P holds [] pair are is = absurd (err-ok _ _ is)
+  pair_spelled form P holds (a ∷ []) pair are is = absurd (err-ok _ _ is)
+  pair_spelled form P holds (a ∷ b ∷ []) pair are is =
+      both_read (path_word a) _ pair is (λ p first rest.
+      both_read (form b) _ pair rest (λ n second done. subst (IsPair P) (same_Ok (p, n) pair done) (record { path = of_path a p are.0 first; number = holds b n second })))
+  pair_spelled form P holds (a ∷ b ∷ c ∷ words) pair are is = absurd (err-ok _ _ is)
 
-headed_in_range : (lines : List (List ℕ)) (script : Script) → headed lines ≡ Some script → IsSpelledScript script
-headed_in_range [] script is = absurd (none-some _ is)
-headed_in_range (a ∷ []) script is = absurd (none-some _ is)
-headed_in_range (a ∷ b ∷ []) script is = absurd (none-some _ is)
-headed_in_range (a ∷ b ∷ c ∷ lines) script is =
-    option_and_then_some (with_calls lines) (header a b c) script is (λ counts some rest. counted_in_range lines counts script (header_small a b c counts some) rest)
+  record IsOwned (made : PathArg × (ℕ × ℕ)) : Type 0 where
+    path : Path made.0
+    uid : made.1.0 < 2 ^ 32
+    gid : made.1.1 < 2 ^ 32
 
--- each script that is read is in range
-pub script_in_range : (bytes : List ℕ) (script : Script) → script_of bytes ≡ Some script → IsSpelledScript script
-script_in_range bytes script is = option_and_then_some headed (text_lines bytes) script is (λ lines some rest. headed_in_range lines script rest)
+  owner_spelled : (words : List (List ℕ)) (made : PathArg × (ℕ × ℕ)) → AllByRecursion Word words → path_owner_words words ≡ Ok made → IsOwned made
+  unfolding path_owner_words
+  owner_spelled [] made are is = absurd (err-ok _ _ is)
+  owner_spelled (a ∷ []) made are is = absurd (err-ok _ _ is)
+  owner_spelled (a ∷ b ∷ []) made are is = absurd (err-ok _ _ is)
+  owner_spelled (a ∷ b ∷ c ∷ []) made are is =
+      both_read (path_word a) _ made is (λ p first rest.
+      both_read (number_word 4294967295 b) _ made rest (λ u second more.
+      both_read (number_word 4294967295 c) _ made more (λ g third done.
+      let low = word_small 4294967295 b u second in
+      let high = word_small 4294967295 c g third in
+      subst IsOwned (same_Ok (p, (u, g)) made done) (record { path = of_path a p are.0 first; uid = omega (arith, low); gid = omega (arith, high) }))))
+  owner_spelled (a ∷ b ∷ c ∷ d ∷ words) made are is = absurd (err-ok _ _ is)
+
+  record AreSpelled (pair : PathArg × PathArg) : Type 0 where
+    old : Path pair.0
+    new : Path pair.1
+
+  two_spelled : (words : List (List ℕ)) (pair : PathArg × PathArg) → AllByRecursion Word words → two_path_words words ≡ Ok pair → AreSpelled pair
+  unfolding two_path_words
+  two_spelled [] pair are is = absurd (err-ok _ _ is)
+  two_spelled (a ∷ []) pair are is = absurd (err-ok _ _ is)
+  two_spelled (a ∷ b ∷ []) pair are is =
+      both_read (path_word a) _ pair is (λ o first rest.
+      both_read (path_word b) _ pair rest (λ n second done. subst AreSpelled (same_Ok (o, n) pair done) (record { old = of_path a o are.0 first; new = of_path b n are.1.0 second })))
+  two_spelled (a ∷ b ∷ c ∷ words) pair are is = absurd (err-ok _ _ is)
+
+  record IsPlaced (pair : List ℕ × Rule) : Type 0 where
+    name : Name pair.0
+    rule : IsSpelledRule pair.1
+
+  placed_spelled : (words : List (List ℕ)) (pair : List ℕ × Rule) → AllByRecursion Word words → name_rule_words words ≡ Ok pair → IsPlaced pair
+  unfolding name_rule_words
+  placed_spelled [] pair are is = absurd (err-ok _ _ is)
+  placed_spelled (a ∷ []) pair are is = absurd (err-ok _ _ is)
+  placed_spelled (a ∷ b ∷ []) pair are is =
+      both_read (name_word a) _ pair is (λ n first rest.
+      both_read (rule_word b) _ pair rest (λ r second done. subst IsPlaced (same_Ok (n, r) pair done) (record { name = of_name a n are.0 first; rule = rule_spelled b r second })))
+  placed_spelled (a ∷ b ∷ c ∷ words) pair are is = absurd (err-ok _ _ is)
+
+  -- ---- operations and calls
+
+  record IsOpNamed (verb : Verb) (o : Op) : Type 0 where
+    spelled : IsOpOf Path Name o
+    named : verb_of o ≡ verb
+
+  path_op : (verb : Verb) (make : PathArg → Op) (words : List (List ℕ)) (o : Op) → ((p : PathArg) → Path p → IsOpNamed verb (make p)) → AllByRecursion Word words → (path_words words =>> λ p. Ok (make p)) ≡ Ok o → IsOpNamed verb o
+  path_op verb make words o made are is = both_read (path_words words) _ o is (λ p some rest. subst (IsOpNamed verb) (same_Ok (make p) o rest) (made p (one_spelled words p are some)))
+
+  pair_op : (verb : Verb) (make : PathArg → ℕ → Op) (form : List ℕ → Result ℕ ℕ) (P : ℕ → Type 0) (words : List (List ℕ)) (o : Op) → ((word : List ℕ) (n : ℕ) → form word ≡ Ok n → P n)
+      → ((p : PathArg) (n : ℕ) → Path p → P n → IsOpNamed verb (make p n)) → AllByRecursion Word words → (path_number_words form words =>> λ a. Ok (make a.0 a.1)) ≡ Ok o → IsOpNamed verb o
+  pair_op verb make form P words o small made are is =
+      both_read (path_number_words form words) _ o is (λ a some rest.
+      let pair = pair_spelled form P small words a are some in subst (IsOpNamed verb) (same_Ok (make a.0 a.1) o rest) (made a.0 a.1 pair.path pair.number))
+
+  op_spelled : (verb : Verb) (words : List (List ℕ)) (o : Op) → AllByRecursion Word words → op_words verb words ≡ Ok o → IsOpNamed verb o
+  op_spelled verb.Mkdir words o are is =
+      pair_op verb.Mkdir (λ p n. op.Mkdir p n) mode_word (λ n. n < 512) words o mode_small (λ p n path small. record { spelled = (path, small); named = refl }) are is
+  op_spelled verb.Create words o are is =
+      pair_op verb.Create (λ p n. op.Create p n) mode_word (λ n. n < 512) words o mode_small (λ p n path small. record { spelled = (path, small); named = refl }) are is
+  op_spelled verb.Stat words o are is = path_op verb.Stat (λ p. op.Stat p) words o (λ p path. record { spelled = path; named = refl }) are is
+  op_spelled verb.Access words o are is =
+      pair_op verb.Access (λ p n. op.Access p n) (number_word 7) (λ n. n ≤ 7) words o (word_small 7) (λ p n path small. record { spelled = (path, omega (arith, small)); named = refl }) are is
+  op_spelled verb.Chmod words o are is =
+      pair_op verb.Chmod (λ p n. op.Chmod p n) mode_word (λ n. n < 512) words o mode_small (λ p n path small. record { spelled = (path, small); named = refl }) are is
+  op_spelled verb.Chown words o are is =
+      both_read (path_owner_words words) _ o is (λ a some rest.
+      let made = owner_spelled words a are some in
+      subst (IsOpNamed verb.Chown) (same_Ok (op.Chown a.0 a.1.0 a.1.1) o rest) (record { spelled = (made.path, made.uid, made.gid); named = refl }))
+  op_spelled verb.Truncate words o are is =
+      pair_op verb.Truncate (λ p n. op.Truncate p n) (number_word 9223372036854775807) (λ n. n ≤ 9223372036854775807) words o (word_small 9223372036854775807)
+      (λ p n path small. record { spelled = (path, omega (arith, small)); named = refl }) are is
+  op_spelled verb.Unlink words o are is = path_op verb.Unlink (λ p. op.Unlink p) words o (λ p path. record { spelled = path; named = refl }) are is
+  op_spelled verb.Rmdir words o are is = path_op verb.Rmdir (λ p. op.Rmdir p) words o (λ p path. record { spelled = path; named = refl }) are is
+  op_spelled verb.Rename words o are is =
+      both_read (two_path_words words) _ o is (λ a some rest.
+      let made = two_spelled words a are some in subst (IsOpNamed verb.Rename) (same_Ok (op.Rename a.0 a.1) o rest) (record { spelled = (made.old, made.new); named = refl }))
+  op_spelled verb.List words o are is = path_op verb.List (λ p. op.List p) words o (λ p path. record { spelled = path; named = refl }) are is
+  op_spelled verb.Place words o are is =
+      both_read (name_rule_words words) _ o is (λ a some rest.
+      let made = placed_spelled words a are some in subst (IsOpNamed verb.Place) (same_Ok (op.Place a.0 a.1) o rest) (record { spelled = (made.name, made.rule); named = refl }))
+
+  word_served : (word : List ℕ) (verb : Verb) → served_word word ≡ Some verb → is_served_verb verb ≡ true
+  word_served word verb is =
+      option_and_then_some if_served (verb_word word) verb is (λ v some rest. let found = cond_some (is_served_verb v) v verb rest in subst (λ u. is_served_verb u ≡ true) found.1 found.0)
+
+  -- a call that is read
+  pub words_spelled : (lanes : ℕ) (words : List (List ℕ)) (line : ScriptCall) → AllByRecursion Word words → call_words lanes words ≡ Ok line → IsLineOf Path Name lanes line
+  unfolding call_words
+  words_spelled lanes [] line are is = absurd (err-ok _ _ is)
+  words_spelled lanes (a ∷ []) line are is = absurd (err-ok _ _ is)
+  words_spelled lanes (a ∷ b ∷ []) line are is = absurd (err-ok _ _ is)
+  words_spelled lanes (a ∷ b ∷ c ∷ words) line are is =
+      both_read (or_rule 6 (number_from_one lanes a)) _ line is (λ lane first rest.
+      both_read (or_rule 7 (cred_word b)) _ line rest (λ cred second more.
+      both_read (or_rule 8 (served_word c)) _ line more (λ verb third on.
+      both_read (op_words verb words) _ line on (λ o fourth done.
+      let here = counted_small lanes a lane (ruled 6 _ lane first) in
+      let caller = cred_small b cred (ruled 7 _ cred second) in
+      let made = op_spelled verb words o are.1.1.1 fourth in
+      let served = word_served c verb (ruled 8 _ verb third) in
+      subst (IsLineOf Path Name lanes) (same_Ok (record { lane = lane; call = record { cred = cred; op = o } }) line done)
+      (record {
+        from_one = here.some;
+        within = here.within;
+        call = record { uid = caller.uid; gid = caller.gid; op = made.spelled; served = subst (λ v. is_served_verb v ≡ true) (sym made.named) served };
+      })))))

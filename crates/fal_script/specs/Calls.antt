@@ -1,86 +1,63 @@
--- The calls of a script: `LANE UID:GID OPERATION ARGUMENTS`, joined by one space.
-use Rattle.std.specs.Prelude.{ℕ, Bool, ◌&&◌, not, List, [], ◌∷◌, length, codes, if◌then◌else◌, ◌==◌, nat_le, Option, Some, None}
-use Rattle.std.specs.List.{slice_split, list_all}
-use Rattle.std.specs.Option.{option_and_then, option_map}
-use Rattle.std.specs.Cmp.Lexicographic.{pointwise}
-use Rattle.fal_base.specs.declared.call.Call.{Call}
-use Rattle.fal_base.specs.declared.call.Cred.{Cred}
+-- The calls of a script: `LANE UID:GID OPERATION ARGUMENTS`. The rules are judged from the left, in their order.
+use Rattle.std.specs.Prelude.{ℕ, List, [], ◌∷◌, Result, Ok, Err}
 use Rattle.fal_base.specs.declared.op.Op.{Op}
 use Rattle.fal_base.specs.declared.op.Op.TheVariants as op
 use Rattle.fal_base.specs.declared.path.PathArg.{PathArg}
-use Rattle.fal_base.specs.PathArgs.{path_arg_of}
+use Rattle.fal_base.specs.declared.rule.Rule.{Rule}
 use Rattle.fal_script.specs.declared.script.ScriptCall.{ScriptCall}
-use Rattle.fal_script.specs.Numbers.{number_up_to, number_from_one, spelled_mode}
-use Rattle.fal_script.specs.declared.words.Verb.{Verb}
-use Rattle.fal_script.specs.declared.words.Verb.TheVariants.{Mkdir, Create, Stat, Access, Truncate, Unlink}
-
-unfoldable pub is_word : List ℕ → List ℕ → Bool
-is_word word bytes = pointwise ◌==◌ bytes word
-
-unfoldable pub are_path_bytes : List ℕ → Bool
-are_path_bytes word = list_all (λ b. nat_le 33 b && nat_le b 126 && not (b == 37)) word
-
--- a path is spelled in bytes from 33 to 126 other than `%` (37), one at least
-unfoldable pub is_path_spelling : List ℕ → Bool
-is_path_spelling word = not (length word == 0) && are_path_bytes word
-
-unfoldable pub spelled_path : List ℕ → Option PathArg
-spelled_path word = if is_path_spelling word then Some (path_arg_of word) else None
-
--- two numbers joined by one `:` (58)
-abbrev pub cred_parts : List (List ℕ) → Option Cred
-cred_parts (uid ∷ gid ∷ []) = option_and_then (λ u. option_map (λ g. record { uid = u; gid = g }) (number_up_to 4294967295 gid)) (number_up_to 4294967295 uid)
-cred_parts other = None
-
-unfoldable pub cred_word : List ℕ → Option Cred
-cred_word word = cred_parts (slice_split (λ b. b == 58) word)
-
-unfoldable pub verb_word : List ℕ → Option Verb
-verb_word word =
-    if is_word (codes "mkdir") word then Some Mkdir
-    else (if is_word (codes "create") word then Some Create
-    else (if is_word (codes "stat") word then Some Stat
-    else (if is_word (codes "access") word then Some Access
-    else (if is_word (codes "truncate") word then Some Truncate
-    else (if is_word (codes "unlink") word then Some Unlink else None)))))
+use Rattle.fal_script.specs.declared.verbs.Verb.{Verb}
+use Rattle.fal_script.specs.declared.verbs.Verb.TheVariants as verb
+use Rattle.fal_script.specs.Arguments.{cred_word, path_word, name_word, mode_word, number_word, rule_word}
+use Rattle.fal_script.specs.Numbers.{number_from_one}
+use Rattle.fal_script.specs.ReadAs.{or_rule, ◌=>>◌}
+use Rattle.fal_script.specs.Verbs.{served_word}
 
 -- a path alone
-unfoldable pub path_argument : List (List ℕ) → Option PathArg
-path_argument (path ∷ []) = spelled_path path
-path_argument other = None
+unfoldable pub path_words : List (List ℕ) → Result PathArg ℕ
+path_words (path ∷ []) = path_word path
+path_words other = Err 9
 
--- a path, and a number of some form
-unfoldable pub two_arguments : (List ℕ → Option ℕ) → List (List ℕ) → Option (PathArg × ℕ)
-two_arguments form (path ∷ number ∷ []) = option_and_then (λ p. option_map (λ n. (p, n)) (form number)) (spelled_path path)
-two_arguments form other = None
+-- a path, and a mode or another number
+unfoldable pub path_number_words : (List ℕ → Result ℕ ℕ) → List (List ℕ) → Result (PathArg × ℕ) ℕ
+path_number_words form (path ∷ number ∷ []) = path_word path =>> λ p. form number =>> λ n. Ok (p, n)
+path_number_words form other = Err 9
 
-abbrev pub op_words : Verb → List (List ℕ) → Option Op
-op_words Mkdir arguments = option_map (λ a. op.Mkdir a.0 a.1) (two_arguments spelled_mode arguments)
-op_words Create arguments = option_map (λ a. op.Create a.0 a.1) (two_arguments spelled_mode arguments)
-op_words Stat arguments = option_map (λ p. op.Stat p) (path_argument arguments)
-op_words Access arguments = option_map (λ a. op.Access a.0 a.1) (two_arguments (number_up_to 7) arguments)
-op_words Truncate arguments = option_map (λ a. op.Truncate a.0 a.1) (two_arguments (number_up_to 9223372036854775807) arguments)
-op_words Unlink arguments = option_map (λ p. op.Unlink p) (path_argument arguments)
+-- a path, an owner and a group
+unfoldable pub path_owner_words : List (List ℕ) → Result (PathArg × (ℕ × ℕ)) ℕ
+path_owner_words (path ∷ uid ∷ gid ∷ []) = path_word path =>> λ p. number_word 4294967295 uid =>> λ u. number_word 4294967295 gid =>> λ g. Ok (p, (u, g))
+path_owner_words other = Err 9
 
--- how many nodes or lanes: 1 to 16
-abbrev pub count_word : List ℕ → Option ℕ
-count_word word = number_from_one 16 word
+-- a path and another one
+unfoldable pub two_path_words : List (List ℕ) → Result (PathArg × PathArg) ℕ
+two_path_words (old ∷ new ∷ []) = path_word old =>> λ o. path_word new =>> λ n. Ok (o, n)
+two_path_words other = Err 9
 
--- a lane, from 1 to the last
-abbrev pub lane_word : ℕ → List ℕ → Option ℕ
-lane_word lanes word = number_from_one lanes word
+-- a name and its rule
+unfoldable pub name_rule_words : List (List ℕ) → Result (List ℕ × Rule) ℕ
+name_rule_words (name ∷ rule ∷ []) = name_word name =>> λ n. rule_word rule =>> λ r. Ok (n, r)
+name_rule_words other = Err 9
 
-abbrev pub verb_call : Option Cred → Option Verb → List (List ℕ) → Option Call
-verb_call None verb arguments = None
-verb_call (Some cred) None arguments = None
-verb_call (Some cred) (Some verb) arguments = option_map (λ o. record { cred = cred; op = o }) (op_words verb arguments)
-
--- a call and its lane, where both are spelled
-abbrev pub on_lane : Option ℕ → Option Call → Option ScriptCall
-on_lane None call = None
-on_lane (Some lane) call = option_map (λ c. record { lane = lane; call = c }) call
+-- an operation of these arguments
+abbrev pub op_words : Verb → List (List ℕ) → Result Op ℕ
+op_words verb.Mkdir arguments = path_number_words mode_word arguments =>> λ a. Ok (op.Mkdir a.0 a.1)
+op_words verb.Create arguments = path_number_words mode_word arguments =>> λ a. Ok (op.Create a.0 a.1)
+op_words verb.Stat arguments = path_words arguments =>> λ p. Ok (op.Stat p)
+op_words verb.Access arguments = path_number_words (number_word 7) arguments =>> λ a. Ok (op.Access a.0 a.1)
+op_words verb.Chmod arguments = path_number_words mode_word arguments =>> λ a. Ok (op.Chmod a.0 a.1)
+op_words verb.Chown arguments = path_owner_words arguments =>> λ a. Ok (op.Chown a.0 a.1.0 a.1.1)
+op_words verb.Truncate arguments = path_number_words (number_word 9223372036854775807) arguments =>> λ a. Ok (op.Truncate a.0 a.1)
+op_words verb.Unlink arguments = path_words arguments =>> λ p. Ok (op.Unlink p)
+op_words verb.Rmdir arguments = path_words arguments =>> λ p. Ok (op.Rmdir p)
+op_words verb.Rename arguments = two_path_words arguments =>> λ a. Ok (op.Rename a.0 a.1)
+op_words verb.List arguments = path_words arguments =>> λ p. Ok (op.List p)
+op_words verb.Place arguments = name_rule_words arguments =>> λ a. Ok (op.Place a.0 a.1)
 
 -- the call of a line's words, where there are so many lanes
-abbrev pub call_words : ℕ → List (List ℕ) → Option ScriptCall
-call_words lanes (lane ∷ cred ∷ verb ∷ arguments) = on_lane (lane_word lanes lane) (verb_call (cred_word cred) (verb_word verb) arguments)
-call_words lanes other = None
+unfoldable pub call_words : ℕ → List (List ℕ) → Result ScriptCall ℕ
+call_words lanes (lane ∷ cred ∷ verb ∷ arguments) =
+    or_rule 6 (number_from_one lanes lane) =>> λ l.
+    or_rule 7 (cred_word cred) =>> λ c.
+    or_rule 8 (served_word verb) =>> λ v.
+    op_words v arguments =>> λ o.
+    Ok (record { lane = l; call = record { cred = c; op = o } })
+call_words lanes other = Err 5

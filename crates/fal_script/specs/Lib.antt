@@ -1,6 +1,12 @@
+pub mod Arguments
 pub mod Calls
 pub mod Configs
+pub mod Escapes
 pub mod Lines
 pub mod Numbers
+pub mod Printed
 pub mod Ranges
+pub mod ReadAs
 pub mod Script
+pub mod Verbs
+pub mod Words

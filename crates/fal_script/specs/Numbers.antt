@@ -2,6 +2,7 @@
 use Rattle.std.specs.Prelude.{ℕ, ◌+◌, ◌-◌, ◌*◌, Bool, ◌&&◌, List, [], ◌∷◌, length, if◌then◌else◌, nat_le, Option, Some, None}
 use Rattle.std.specs.List.{list_all}
 
+-- 0 to 9
 abbrev pub is_digit : ℕ → Bool
 is_digit b = nat_le 48 b && nat_le b 57
 
@@ -10,6 +11,7 @@ abbrev pub value_after : ℕ → List ℕ → ℕ
 value_after n [] = n
 value_after n (d ∷ ds) = value_after (n * 10 + (d - 48)) ds
 
+-- all bytes are digits
 unfoldable pub are_digits : List ℕ → Bool
 are_digits word = list_all is_digit word
 
@@ -30,10 +32,23 @@ from_one (Some n) = if nat_le 1 n then Some n else None
 unfoldable pub number_from_one : ℕ → List ℕ → Option ℕ
 number_from_one most word = from_one (number_up_to most word)
 
+-- 0 to 7
 abbrev pub is_octal : ℕ → Bool
 is_octal b = nat_le 48 b && nat_le b 55
 
--- a mode has three octal digits
+-- the number that octal digits spell after a number so far
+abbrev pub octal_after : ℕ → List ℕ → ℕ
+octal_after n [] = n
+octal_after n (d ∷ ds) = octal_after (n * 8 + (d - 48)) ds
+
+-- all bytes are octal digits
+unfoldable pub are_octal : List ℕ → Bool
+are_octal word = list_all is_octal word
+
+-- 1 to 4 octal digits
+unfoldable pub is_mode : List ℕ → Bool
+is_mode word = nat_le 1 (length word) && nat_le (length word) 4 && are_octal word
+
+-- a mode has 1 to 4 octal digits and is at most 777 octal
 unfoldable pub spelled_mode : List ℕ → Option ℕ
-spelled_mode (a ∷ b ∷ c ∷ []) = if is_octal a && is_octal b && is_octal c then Some (64 * (a - 48) + 8 * (b - 48) + (c - 48)) else None
-spelled_mode other = None
+spelled_mode word = if is_mode word && nat_le (octal_after 0 word) 511 then Some (octal_after 0 word) else None

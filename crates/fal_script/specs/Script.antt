@@ -1,57 +1,62 @@
--- The scripts that are read: three lines of a header, and then a call a line.
-use Rattle.std.specs.Prelude.{ℕ, List, [], ◌∷◌, length, codes, if◌then◌else◌, ◌==◌, nat_le, Option, Some, None}
-use Rattle.std.specs.List.{slice_split}
-use Rattle.std.specs.Option.{option_and_then, option_map}
+-- The scripts that are read: three content lines of a header, and then a call a content line. The fault is the first line that breaks a rule,
+-- with the lowest rule that it breaks.
+use Rattle.std.specs.Prelude.{ℕ, ◌+◌, Bool, ◌&&◌, false, List, [], ◌∷◌, ◌++◌, length, codes, if◌then◌else◌, nat_lt, Option, None, Result, Ok, Err}
+use Rattle.fal_script.specs.declared.fault.ScriptFault.{ScriptFault}
+use Rattle.fal_script.specs.declared.fault.ScriptFault.TheVariants.{Fault}
+use Rattle.fal_script.specs.declared.reading.Draft.{Draft}
+use Rattle.fal_script.specs.declared.reading.Draft.TheVariants.{Empty, Titled, Counted, Headed}
 use Rattle.fal_script.specs.declared.script.Script.{Script}
 use Rattle.fal_script.specs.declared.script.ScriptCall.{ScriptCall}
-use Rattle.fal_script.specs.Calls.{is_word, count_word, call_words}
+use Rattle.fal_script.specs.Arguments.{count_word}
+use Rattle.fal_script.specs.Calls.{call_words}
 use Rattle.fal_script.specs.Lines.{text_lines}
+use Rattle.fal_script.specs.ReadAs.{or_rule, ◌=>>◌}
+use Rattle.fal_script.specs.Words.{is_word, words_of, is_skipped_line}
 
--- a line has at most 16,384 bytes, its line feed not counted
-unfoldable pub words_of : List ℕ → Option (List (List ℕ))
-words_of line = if nat_le (length line) 16384 then Some (slice_split (λ b. b == 32) line) else None
+-- these two words
+abbrev pub are_words : List ℕ → List ℕ → List (List ℕ) → Bool
+are_words first second (a ∷ b ∷ []) = is_word first a && is_word second b
+are_words first second other = false
 
--- the call of a line, where there are so many lanes
-unfoldable pub line_call : ℕ → List ℕ → Option ScriptCall
-line_call lanes line = option_and_then (call_words lanes) (words_of line)
-
--- one call in front of the rest, where all are spelled
-abbrev pub with_first : Option ScriptCall → Option (List ScriptCall) → Option (List ScriptCall)
-with_first None calls = None
-with_first (Some call) calls = option_map (λ cs. call ∷ cs) calls
-
--- the calls of lines, in their order, where there are so many lanes
-abbrev pub calls_of : ℕ → List (List ℕ) → Option (List ScriptCall)
-calls_of lanes [] = Some []
-calls_of lanes (line ∷ lines) = with_first (line_call lanes line) (calls_of lanes lines)
-
--- the number after the label, in the words of a line
+-- the count after this label
 abbrev pub labelled : List ℕ → List (List ℕ) → Option ℕ
-labelled label (word ∷ number ∷ []) = if is_word label word then count_word number else None
+labelled label (word ∷ count ∷ []) = if is_word label word then count_word count else None
 labelled label other = None
 
--- the number that a line of the header gives after the label
-unfoldable pub count : List ℕ → List ℕ → Option ℕ
-count label line = option_and_then (labelled label) (words_of line)
+-- a script with one call more
+abbrev pub with_script_call : Script → ScriptCall → Script
+with_script_call script call = record script { lines = script.lines ++ call ∷ [] }
 
--- how many nodes and lanes, where both are spelled
-abbrev pub both : Option ℕ → Option ℕ → Option (ℕ × ℕ)
-both None lanes = None
-both (Some nodes) lanes = option_map (λ l. (nodes, l)) lanes
+-- what is read of a script after one more content line
+abbrev pub content_line : Draft → List (List ℕ) → Result Draft ℕ
+content_line Empty words = if are_words (codes "falcon-script") (codes "1") words then Ok Titled else Err 2
+content_line Titled words = or_rule 3 (labelled (codes "nodes") words) =>> λ nodes. Ok (Counted nodes)
+content_line (Counted nodes) words = or_rule 4 (labelled (codes "lanes") words) =>> λ lanes. Ok (Headed (record { nodes = nodes; lanes = lanes; lines = [] }))
+content_line (Headed script) words = call_words script.lanes words =>> λ call. Ok (Headed (with_script_call script call))
 
--- how many nodes and lanes the header gives, after the version of the format
-unfoldable pub header : List ℕ → List ℕ → List ℕ → Option (ℕ × ℕ)
-header first second third = if is_word (codes "falcon-script 1") first then both (count (codes "nodes") second) (count (codes "lanes") third) else None
+-- skipped lines change nothing
+abbrev pub line_of_words : Draft → List (List ℕ) → Result Draft ℕ
+line_of_words draft words = if is_skipped_line words then Ok draft else content_line draft words
 
--- the script of the lines after the header
-abbrev pub with_calls : List (List ℕ) → ℕ × ℕ → Option Script
-with_calls lines (nodes, lanes) = option_map (λ calls. record { nodes = nodes; lanes = lanes; lines = calls }) (calls_of lanes lines)
+-- a line has at most 16,384 bytes, its line feed not counted
+unfoldable pub with_line : Draft → List ℕ → Result Draft ℕ
+with_line draft line = if nat_lt 16384 (length line) then Err 1 else line_of_words draft (words_of line)
 
--- the script of all lines
-abbrev pub headed : List (List ℕ) → Option Script
-headed (first ∷ second ∷ third ∷ lines) = option_and_then (with_calls lines) (header first second third)
-headed other = None
+-- the script, where the header is whole before this line, which the bytes do not have
+abbrev pub finished : ℕ → Draft → Result Script ScriptFault
+finished at (Headed script) = Ok script
+finished at other = Err (Fault at 14)
 
--- the script that bytes spell, or none where they are not in the grammar
-abbrev pub script_of : List ℕ → Option Script
-script_of bytes = option_and_then headed (text_lines bytes)
+-- the fault is at this line, or what comes next is read
+abbrev pub or_fault_at : ℕ → Result Draft ℕ → (Draft → Result Script ScriptFault) → Result Script ScriptFault
+or_fault_at at (Ok draft) next = next draft
+or_fault_at at (Err rule) next = Err (Fault at rule)
+
+-- the script after these lines, of which the first has this number
+abbrev pub script_from : ℕ → Draft → List (List ℕ) → Result Script ScriptFault
+script_from at draft [] = finished at draft
+script_from at draft (line ∷ lines) = or_fault_at at (with_line draft line) (λ next. script_from (at + 1) next lines)
+
+-- the script that bytes spell, or the first line that breaks a rule, and that rule
+abbrev pub script_of : List ℕ → Result Script ScriptFault
+script_of bytes = script_from 1 Empty (text_lines bytes)

@@ -1,170 +1,185 @@
-ghost use Rattle.std.specs.Prelude.{◌≡◌, ◌≤◌, IfOk, IfSome, map};
-ghost use Rattle.std.specs.Option.{option_map, option_and_then};
-ghost use Rattle.fal_script.specs.Calls.{path_argument as path_argument_of, two_arguments, op_words as op_of, verb_call as verb_call_of, on_lane as on_lane_of, call_words as call_of};
-ghost use Rattle.fal_script.specs.Numbers.{spelled_mode as mode_of, number_up_to as number_of};
-ghost use Rattle.fal_base.specs.declared.op.Op.TheVariants.{Mkdir as MkdirOp, Create as CreateOp, Stat as StatOp, Access as AccessOp, Truncate as TruncateOp, Unlink as UnlinkOp};
+ghost use Rattle.std.specs.Prelude.{◌≡◌, ◌≤◌, IfOk, map};
+ghost use Rattle.fal_script.specs.Arguments.{mode_word as mode_of, number_word as number_of};
+ghost use Rattle.fal_script.specs.Calls.{path_words as path_words_of, path_number_words as path_number_of, path_owner_words as owner_of, two_path_words as two_paths_of, name_rule_words as name_rule_of, op_words as op_of, call_words as call_of};
+ghost use Rattle.fal_script.specs.ReadAs.{ReadAs, or_rule as or_rule_of};
 
-use crate::numbers::{mode_word, number_up_to};
+use crate::arguments::{cred_word, mode_word, name_word, number_word, path_word, rule_word};
+use crate::fault::Broken;
+use crate::numbers::number_from_one;
 use crate::script::ScriptCall;
-use crate::words::{Verb, cred_word, lane_word, path_word, verb_word};
-use fal_base::{Call, Cred, Op, OutOfMemory, PathArg};
+use crate::verbs::{Verb, served_word};
+use fal_base::{Call, Name, Op, PathArg, Rule};
 use std::alloc::Global;
+
+const ID: u64 = 4_294_967_295;
 
 const SIZE: u64 = 9_223_372_036_854_775_807;
 
-// A path, which stands alone.
-#[tactic(auto, unfolding(crate::specs::Calls::path_argument))]
-fn path_argument(alloc: Global, arguments: &[&[u8]]) -> Result<Option<PathArg>, OutOfMemory>
-    ensures { IfOk result (λ path. path ≡ path_argument_of (map (λ w. w.now) arguments.now)) }
+#[tactic(auto, unfolding(crate::specs::Calls::path_words))]
+fn one_path(alloc: Global, arguments: &[&[u8]]) -> Result<PathArg, Broken>
+    ensures { ReadAs result (path_words_of (map (λ w. w.now) arguments.now)) }
 {
     match arguments {
         [path] => path_word(alloc, path),
-        _ => Ok(None),
+        _ => Err(Broken::Rule(9)),
     }
 }
 
-fn with_number(path: Option<PathArg>, number: Option<u64>) -> Option<(PathArg, u64)>
-    ensures pair { result ≡ option_and_then (λ p. option_map (λ n. (p, n)) number) path }
-    ensures number { IfSome result (λ pair. number ≡ Some pair.1) }
-{
-    let path = path?;
-    let number = number?;
-    Some((path, number))
-}
-
-// A path and a number that is at most this large.
-#[tactic(auto, unfolding(crate::specs::Calls::two_arguments))]
-fn number_argument(
-    alloc: Global,
-    most: u64,
-    arguments: &[&[u8]],
-) -> Result<Option<(PathArg, u64)>, OutOfMemory>
-    ensures value { IfOk result (λ pair. pair ≡ two_arguments (number_of most) (map (λ w. w.now) arguments.now)) }
-    ensures small { IfOk result (λ pair. IfSome pair (λ p. p.1 ≤ most)) }
+#[tactic(auto, unfolding(crate::specs::Calls::path_number_words))]
+fn path_and_mode(alloc: Global, arguments: &[&[u8]]) -> Result<(PathArg, u16), Broken>
+    ensures { ReadAs result (path_number_of mode_of (map (λ w. w.now) arguments.now)) }
 {
     match arguments {
-        [path, number] => Ok(with_number(path_word(alloc, path)?, number_up_to(most, number))),
-        _ => Ok(None),
+        [path, mode] => {
+            let path = path_word(alloc, path)?;
+            let mode = mode_word(mode)?;
+            Ok((path, mode))
+        }
+        _ => Err(Broken::Rule(9)),
     }
 }
 
-fn with_mode(path: Option<PathArg>, mode: Option<u16>) -> Option<(PathArg, u16)>
-    ensures { result ≡ option_and_then (λ p. option_map (λ n. (p, n)) mode) path }
-{
-    let path = path?;
-    let mode = mode?;
-    Some((path, mode))
-}
-
-// A path and a mode.
-#[tactic(auto, unfolding(crate::specs::Calls::two_arguments))]
-fn mode_argument(alloc: Global, arguments: &[&[u8]]) -> Result<Option<(PathArg, u16)>, OutOfMemory>
-    ensures { IfOk result (λ pair. pair ≡ two_arguments mode_of (map (λ w. w.now) arguments.now)) }
+// A path, and a number that is at most this large.
+#[tactic(auto, unfolding(crate::specs::Calls::path_number_words))]
+fn path_and_number(alloc: Global, most: u64, arguments: &[&[u8]]) -> Result<(PathArg, u64), Broken>
+    ensures value { ReadAs result (path_number_of (number_of most) (map (λ w. w.now) arguments.now)) }
+    ensures small { IfOk result (λ pair. pair.1 ≤ most) }
 {
     match arguments {
-        [path, mode] => Ok(with_mode(path_word(alloc, path)?, mode_word(mode))),
-        _ => Ok(None),
+        [path, number] => {
+            let path = path_word(alloc, path)?;
+            let number = number_word(most, number)?;
+            Ok((path, number))
+        }
+        _ => Err(Broken::Rule(9)),
     }
 }
 
-fn mkdir(pair: Option<(PathArg, u16)>) -> Option<Op>
-    ensures { result ≡ option_map (λ a. MkdirOp a.0 a.1) pair }
+#[tactic(auto, unfolding(crate::specs::Calls::path_owner_words))]
+fn path_and_owner(alloc: Global, arguments: &[&[u8]]) -> Result<(PathArg, (u32, u32)), Broken>
+    ensures { ReadAs result (owner_of (map (λ w. w.now) arguments.now)) }
 {
-    let (path, mode) = pair?;
-    Some(Op::Mkdir { path, mode })
+    match arguments {
+        [path, uid, gid] => {
+            let path = path_word(alloc, path)?;
+            let uid = number_word(ID, uid)?;
+            let gid = number_word(ID, gid)?;
+            Ok((path, (uid as u32, gid as u32)))
+        }
+        _ => Err(Broken::Rule(9)),
+    }
 }
 
-fn create(pair: Option<(PathArg, u16)>) -> Option<Op>
-    ensures { result ≡ option_map (λ a. CreateOp a.0 a.1) pair }
+#[tactic(auto, unfolding(crate::specs::Calls::two_path_words))]
+fn two_paths(alloc: Global, arguments: &[&[u8]]) -> Result<(PathArg, PathArg), Broken>
+    ensures { ReadAs result (two_paths_of (map (λ w. w.now) arguments.now)) }
 {
-    let (path, mode) = pair?;
-    Some(Op::Create { path, mode })
+    match arguments {
+        [old, new] => {
+            let old = path_word(alloc, old)?;
+            let new = path_word(alloc, new)?;
+            Ok((old, new))
+        }
+        _ => Err(Broken::Rule(9)),
+    }
 }
 
-fn stat(path: Option<PathArg>) -> Option<Op>
-    ensures { result ≡ option_map (λ p. StatOp p) path }
+#[tactic(auto, unfolding(crate::specs::Calls::name_rule_words))]
+fn name_and_rule(alloc: Global, arguments: &[&[u8]]) -> Result<(Name, Rule), Broken>
+    ensures { ReadAs result (name_rule_of (map (λ w. w.now) arguments.now)) }
 {
-    let path = path?;
-    Some(Op::Stat { path })
+    match arguments {
+        [name, rule] => {
+            let name = name_word(alloc, name)?;
+            let rule = rule_word(alloc, rule)?;
+            Ok((name, rule))
+        }
+        _ => Err(Broken::Rule(9)),
+    }
 }
 
-fn unlink(path: Option<PathArg>) -> Option<Op>
-    ensures { result ≡ option_map (λ p. UnlinkOp p) path }
-{
-    let path = path?;
-    Some(Op::Unlink { path })
-}
-
-fn access(pair: Option<(PathArg, u64)>) -> Option<Op>
-    requires { IfSome pair (λ p. p.1 ≤ 7) }
-    ensures { result ≡ option_map (λ a. AccessOp a.0 a.1) pair }
-{
-    let (path, want) = pair?;
-    Some(Op::Access {
-        path,
-        want: want as u8,
-    })
-}
-
-fn truncate(pair: Option<(PathArg, u64)>) -> Option<Op>
-    ensures { result ≡ option_map (λ a. TruncateOp a.0 a.1) pair }
-{
-    let (path, size) = pair?;
-    Some(Op::Truncate { path, size })
-}
-
-// The operation of a verb and its arguments.
-fn op_words(alloc: Global, verb: Verb, arguments: &[&[u8]]) -> Result<Option<Op>, OutOfMemory>
-    ensures { IfOk result (λ op. op ≡ op_of verb (map (λ w. w.now) arguments.now)) }
+/// The operation of a verb and its arguments, or the lowest rule that they break: 9 for their number, 10 for a `%` without two hexadecimal
+/// digits after it, 11 for numbers, 12 for a name, 13 for a rule of placement.
+pub fn op_words(alloc: Global, verb: Verb, arguments: &[&[u8]]) -> Result<Op, Broken>
+    ensures { ReadAs result (op_of verb (map (λ w. w.now) arguments.now)) }
 {
     match verb {
-        Verb::Mkdir => Ok(mkdir(mode_argument(alloc, arguments)?)),
-        Verb::Create => Ok(create(mode_argument(alloc, arguments)?)),
-        Verb::Stat => Ok(stat(path_argument(alloc, arguments)?)),
-        Verb::Access => Ok(access(number_argument(alloc, 7, arguments)?)),
-        Verb::Truncate => Ok(truncate(number_argument(alloc, SIZE, arguments)?)),
-        Verb::Unlink => Ok(unlink(path_argument(alloc, arguments)?)),
+        Verb::Mkdir => {
+            let (path, mode) = path_and_mode(alloc, arguments)?;
+            Ok(Op::Mkdir { path, mode })
+        }
+        Verb::Create => {
+            let (path, mode) = path_and_mode(alloc, arguments)?;
+            Ok(Op::Create { path, mode })
+        }
+        Verb::Stat => {
+            let path = one_path(alloc, arguments)?;
+            Ok(Op::Stat { path })
+        }
+        Verb::Access => {
+            let (path, want) = path_and_number(alloc, 7, arguments)?;
+            let want = want as u8;
+            Ok(Op::Access { path, want })
+        }
+        Verb::Chmod => {
+            let (path, mode) = path_and_mode(alloc, arguments)?;
+            Ok(Op::Chmod { path, mode })
+        }
+        Verb::Chown => {
+            let (path, (uid, gid)) = path_and_owner(alloc, arguments)?;
+            Ok(Op::Chown { path, uid, gid })
+        }
+        Verb::Truncate => {
+            let (path, size) = path_and_number(alloc, SIZE, arguments)?;
+            Ok(Op::Truncate { path, size })
+        }
+        Verb::Unlink => {
+            let path = one_path(alloc, arguments)?;
+            Ok(Op::Unlink { path })
+        }
+        Verb::Rmdir => {
+            let path = one_path(alloc, arguments)?;
+            Ok(Op::Rmdir { path })
+        }
+        Verb::Rename => {
+            let (old, new) = two_paths(alloc, arguments)?;
+            Ok(Op::Rename { old, new })
+        }
+        Verb::List => {
+            let path = one_path(alloc, arguments)?;
+            Ok(Op::List { path })
+        }
+        Verb::Place => {
+            let (name, rule) = name_and_rule(alloc, arguments)?;
+            Ok(Op::Place { name, rule })
+        }
     }
 }
 
-// The call of a caller, a verb and its arguments.
-fn verb_call(
-    alloc: Global,
-    cred: Option<Cred>,
-    verb: Option<Verb>,
-    arguments: &[&[u8]],
-) -> Result<Option<Call>, OutOfMemory>
-    ensures { IfOk result (λ call. call ≡ verb_call_of cred verb (map (λ w. w.now) arguments.now)) }
+fn or_rule<X: Drop>(value: Option<X>, rule: u8) -> Result<X, Broken>
+    ensures { ReadAs result (or_rule_of rule value) }
 {
-    let Some(cred) = cred else { return Ok(None) };
-    let Some(verb) = verb else { return Ok(None) };
-    let Some(op) = op_words(alloc, verb, arguments)? else {
-        return Ok(None);
-    };
-    Ok(Some(Call { cred, op }))
+    match value {
+        Some(value) => Ok(value),
+        None => Err(Broken::Rule(rule)),
+    }
 }
 
-fn on_lane(lane: Option<u8>, call: Option<Call>) -> Option<ScriptCall>
-    ensures { result ≡ on_lane_of lane call }
-{
-    let lane = lane?;
-    let call = call?;
-    Some(ScriptCall { lane, call })
-}
-
-/// The call that the words of a line spell, where there are so many lanes, or none where they are not in the grammar.
-pub fn call_words(
-    alloc: Global,
-    lanes: u8,
-    words: &[&[u8]],
-) -> Result<Option<ScriptCall>, OutOfMemory>
-    ensures { IfOk result (λ call. call ≡ call_of lanes (map (λ w. w.now) words.now)) }
+/// The call that the words of a line spell, where there are so many lanes, or the lowest rule that they break: 5 for fewer than three words,
+/// 6 for the lane, 7 for the caller, 8 for the operation, and 9 to 13 for its arguments.
+#[tactic(auto, unfolding(crate::specs::Calls::call_words))]
+pub fn call_words(alloc: Global, lanes: u8, words: &[&[u8]]) -> Result<ScriptCall, Broken>
+    ensures { ReadAs result (call_of lanes (map (λ w. w.now) words.now)) }
 {
     match words {
         [lane, cred, verb, arguments @ ..] => {
-            let call = verb_call(alloc, cred_word(alloc, cred)?, verb_word(verb), arguments)?;
-            Ok(on_lane(lane_word(lanes, lane), call))
+            let lane = or_rule(number_from_one(lanes, lane), 6)?;
+            let cred = or_rule(cred_word(alloc, cred)?, 7)?;
+            let verb = or_rule(served_word(verb), 8)?;
+            let op = op_words(alloc, verb, arguments)?;
+            let call = Call { cred, op };
+            Ok(ScriptCall { lane, call })
         }
-        _ => Ok(None),
+        _ => Err(Broken::Rule(5)),
     }
 }

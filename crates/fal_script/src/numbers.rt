@@ -1,5 +1,5 @@
 ghost use Rattle.std.specs.Prelude.{◌≡◌, ◌<◌, ◌≤◌, ◌+◌, ◌^◌, IsTrue, IfSome, length, true};
-ghost use Rattle.fal_script.specs.Numbers.{is_number as is_number_of, are_digits as are_digits_of, value_after, number_up_to as number_of, number_from_one as from_one_of, spelled_mode as mode_of};
+ghost use Rattle.fal_script.specs.Numbers.{is_number as is_number_of, are_digits as are_digits_of, value_after, number_up_to as number_of, number_from_one as from_one_of, are_octal as are_octal_of, is_mode as is_mode_of, octal_after, spelled_mode as mode_of};
 
 #[tactic(auto, unfolding(crate::specs::Numbers::are_digits))]
 fn are_digits(word: &[u8]) -> bool
@@ -60,15 +60,47 @@ pub fn number_from_one(most: u8, word: &[u8]) -> Option<u8>
     }
 }
 
-/// The mode that a word spells in three octal digits.
+#[tactic(auto, unfolding(crate::specs::Numbers::are_octal))]
+fn are_octal(word: &[u8]) -> bool
+    ensures { result ≡ are_octal_of word.now }
+{
+    word.iter().all(|b| 48 <= *b && *b <= 55)
+}
+
+// A mode has 1 to 4 octal digits.
+#[tactic(auto, unfolding(crate::specs::Numbers::is_mode))]
+fn is_mode(word: &[u8]) -> bool
+    ensures digits { result ≡ is_mode_of word.now }
+    ensures short { IsTrue result → length word.now ≤ 4 }
+{
+    1 <= word.len() && word.len() <= 4 && are_octal(word)
+}
+
+// The number that octal digits spell. Four of them fit with room to spare.
+fn octal(word: &[u8]) -> u32
+    requires { length word.now ≤ 4 }
+    ensures { result ≡ octal_after 0 word.now }
+{
+    let mut value: u32 = 0;
+    for digit in word {
+        let digit = digit.saturating_sub(48);
+        value = value * 8 + u32::from(digit);
+    }
+    value
+}
+
+/// The mode that a word spells in 1 to 4 octal digits, where it is at most 777.
 #[tactic(auto, unfolding(crate::specs::Numbers::spelled_mode))]
-pub fn mode_word(word: &[u8]) -> Option<u16>
+pub fn spelled_mode(word: &[u8]) -> Option<u16>
     ensures { result ≡ mode_of word.now }
 {
-    match word {
-        [a, b, c] if 48 <= *a && *a <= 55 && 48 <= *b && *b <= 55 && 48 <= *c && *c <= 55 => {
-            Some(64 * u16::from(*a - 48) + 8 * u16::from(*b - 48) + u16::from(*c - 48))
-        }
-        _ => None,
+    if !is_mode(word) {
+        return None;
+    }
+    let value = octal(word);
+    if value <= 511 {
+        Some(value as u16)
+    } else {
+        None
     }
 }

@@ -1,36 +1,44 @@
-ghost use Rattle.std.specs.Prelude.{◌≡◌, ◌==◌, IfOk, map};
-ghost use Rattle.std.specs.List.{slice_split};
-ghost use Rattle.std.specs.Option.{option_and_then};
-ghost use Rattle.fal_script.specs.Lines.{text_lines};
-ghost use Rattle.fal_script.specs.Script.{words_of, line_call as line_call_of, calls_of, labelled as labelled_of, count as count_of, header as header_of, script_of};
+ghost use Rattle.std.specs.Prelude.{◌≡◌, ◌<◌, IfOk, length, map};
+ghost use Rattle.fal_base.specs.Unless.{UnlessMemory};
+ghost use Rattle.fal_script.specs.Printed.{IsPrintablePath, IsPrintableName};
+ghost use Rattle.fal_script.specs.Ranges.{IsScriptOf};
+ghost use Rattle.fal_script.specs.ReadAs.{ReadAs};
+ghost use Rattle.fal_script.specs.Script.{are_words as are_words_of, labelled as labelled_of, content_line as content_of, line_of_words as line_words_of, with_line as line_of, finished as finished_of, script_of};
 
+use crate::arguments::count_word;
 use crate::calls::call_words;
+use crate::fault::{Broken, ScriptFault};
 use crate::lines::cut;
-use crate::script::{LineList, Script, ScriptCall};
-use crate::words::{count_word, is_word};
-use fal_base::OutOfMemory;
-use std::alloc::{AllocError, Global};
+use crate::script::{LineList, Script};
+use crate::words::{is_skipped, is_word, words_of};
+use std::alloc::Global;
 
 const LINE: usize = 16_384;
 
-fn split(alloc: Global, line: &[u8]) -> Result<Vec<&[u8]>, AllocError>
-    ensures { IfOk result (λ words. map (λ w. w.now) words.items ≡ slice_split (λ b. b == 32) line.now) }
-{
-    line.split(|b| *b == b' ').collect(alloc)
+/// What has been read of a script.
+#[derive(Debug, Drop)]
+pub enum Draft {
+    /// No content line.
+    Empty,
+    /// The title.
+    Titled,
+    /// The title and the number of nodes.
+    Counted { nodes: u8 },
+    /// The whole header, and the calls so far.
+    Headed(Script),
 }
 
-// The call of a line, where there are so many lanes.
-#[tactic(auto, unfolding(crate::specs::Script::line_call, crate::specs::Script::words_of))]
-fn line_call(alloc: Global, lanes: u8, line: &[u8]) -> Result<Option<ScriptCall>, OutOfMemory>
-    ensures { IfOk result (λ call. call ≡ line_call_of lanes line.now) }
+// Whether they are these two words.
+fn are_words(words: &[&[u8]], first: &[u8], second: &[u8]) -> bool
+    ensures { result ≡ are_words_of first.now second.now (map (λ w. w.now) words.now) }
 {
-    if line.len() > LINE {
-        return Ok(None);
+    match words {
+        [one, other] => is_word(one, first) && is_word(other, second),
+        _ => false,
     }
-    let words = split(alloc, line)?;
-    call_words(alloc, lanes, &words)
 }
 
+// The count after this label.
 fn labelled(words: &[&[u8]], label: &[u8]) -> Option<u8>
     ensures { result ≡ labelled_of label.now (map (λ w. w.now) words.now) }
 {
@@ -40,82 +48,102 @@ fn labelled(words: &[&[u8]], label: &[u8]) -> Option<u8>
     }
 }
 
-// The number that a line of the header gives after this label.
-#[tactic(auto, unfolding(crate::specs::Script::count, crate::specs::Script::words_of))]
-fn count(alloc: Global, line: &[u8], label: &[u8]) -> Result<Option<u8>, OutOfMemory>
-    ensures { IfOk result (λ number. number ≡ count_of label.now line.now) }
+// Takes one content line more.
+fn content_line(alloc: Global, draft: Draft, words: &[&[u8]]) -> Result<Draft, Broken>
+    ensures { ReadAs result (content_of draft (map (λ w. w.now) words.now)) }
+{
+    match draft {
+        Draft::Empty => {
+            if are_words(words, b"falcon-script", b"1") {
+                Ok(Draft::Titled)
+            } else {
+                Err(Broken::Rule(2))
+            }
+        }
+        Draft::Titled => match labelled(words, b"nodes") {
+            Some(nodes) => Ok(Draft::Counted { nodes }),
+            None => Err(Broken::Rule(3)),
+        },
+        Draft::Counted { nodes } => match labelled(words, b"lanes") {
+            Some(lanes) => {
+                let lines = LineList::new(alloc);
+                Ok(Draft::Headed(Script {
+                    nodes,
+                    lanes,
+                    lines,
+                }))
+            }
+            None => Err(Broken::Rule(4)),
+        },
+        Draft::Headed(mut script) => {
+            let call = call_words(alloc, script.lanes, words)?;
+            script.lines.push(call)?;
+            Ok(Draft::Headed(script))
+        }
+    }
+}
+
+fn line_of_words(alloc: Global, draft: Draft, words: &[&[u8]]) -> Result<Draft, Broken>
+    ensures { ReadAs result (line_words_of draft (map (λ w. w.now) words.now)) }
+{
+    if is_skipped(words) {
+        return Ok(draft);
+    }
+    content_line(alloc, draft, words)
+}
+
+// Takes one line more.
+#[tactic(auto, unfolding(crate::specs::Script::with_line))]
+fn with_line(alloc: Global, draft: Draft, line: &[u8]) -> Result<Draft, Broken>
+    ensures { ReadAs result (line_of draft line.now) }
 {
     if line.len() > LINE {
-        return Ok(None);
+        return Err(Broken::Rule(1));
     }
-    let words = split(alloc, line)?;
-    Ok(labelled(&words, label))
+    let words = words_of(alloc, line)?;
+    line_of_words(alloc, draft, &words)
 }
 
-// How many nodes and lanes the header asks for.
-#[tactic(auto, unfolding(crate::specs::Script::header))]
-fn header(
-    alloc: Global,
-    first: &[u8],
-    second: &[u8],
-    third: &[u8],
-) -> Result<Option<(u8, u8)>, OutOfMemory>
-    ensures { IfOk result (λ counts. counts ≡ header_of first.now second.now third.now) }
+// The script, where its header is whole before the line of this number, which is not there.
+fn finished(line: u32, draft: Draft) -> Result<Script, ScriptFault>
+    ensures { result ≡ finished_of line draft }
 {
-    if !is_word(first, b"falcon-script 1") {
-        return Ok(None);
+    match draft {
+        Draft::Headed(script) => Ok(script),
+        _ => Err(ScriptFault::Fault { line, rule: 14 }),
     }
-    let Some(nodes) = count(alloc, second, b"nodes")? else {
-        return Ok(None);
-    };
-    let Some(lanes) = count(alloc, third, b"lanes")? else {
-        return Ok(None);
-    };
-    Ok(Some((nodes, lanes)))
 }
 
-// The calls of the lines after the header, or none where they are not in the grammar.
-fn line_calls(alloc: Global, lanes: u8, bytes: &[u8]) -> Result<Option<LineList>, OutOfMemory>
-    ensures { IfOk result (λ calls. calls ≡ option_and_then (calls_of lanes) (text_lines bytes.now)) }
+// ReadAs line after line.
+fn read_lines(alloc: Global, bytes: &[u8]) -> Result<Script, ScriptFault>
+    requires { length bytes.now < 4294967295 }
+    ensures { UnlessMemory ScriptFault.OutOfMemory result (script_of bytes.now) }
 {
-    let mut calls = LineList::new(alloc);
+    let mut draft = Draft::Empty;
+    let mut number: u32 = 1;
     let mut rest = bytes;
     while let Some((line, after)) = cut(rest) {
-        let Some(call) = line_call(alloc, lanes, line)? else {
-            return Ok(None);
-        };
-        calls.push(call)?;
+        match with_line(alloc, draft, line) {
+            Ok(next) => draft = next,
+            Err(Broken::Rule(rule)) => {
+                return Err(ScriptFault::Fault { line: number, rule });
+            }
+            Err(Broken::OutOfMemory) => return Err(ScriptFault::OutOfMemory),
+        }
         rest = after;
+        number += 1;
     }
-    if rest.is_empty() {
-        Ok(Some(calls))
-    } else {
-        Ok(None)
-    }
+    finished(number, draft)
 }
 
-/// The script that the bytes spell, or none where they are not in the grammar. Answers want of memory where there is too little.
-pub fn read(alloc: Global, bytes: &[u8]) -> Result<Option<Script>, OutOfMemory>
-    ensures { IfOk result (λ script. script ≡ script_of bytes.now) }
+/// The script that the bytes spell, or the first line that breaks a rule, with the lowest rule that it breaks, or want of memory.
+///
+/// A script that is read can be printed, where no line of it gets too long by escapes.
+pub fn read(alloc: Global, bytes: &[u8]) -> Result<Script, ScriptFault>
+    requires { length bytes.now < 4294967295 }
+    ensures script { UnlessMemory ScriptFault.OutOfMemory result (script_of bytes.now) }
+    ensures printable { IfOk result (λ script. IsScriptOf IsPrintablePath IsPrintableName script) }
 {
-    let Some((first, after)) = cut(bytes) else {
-        return Ok(None);
-    };
-    let Some((second, after)) = cut(after) else {
-        return Ok(None);
-    };
-    let Some((third, after)) = cut(after) else {
-        return Ok(None);
-    };
-    let Some((nodes, lanes)) = header(alloc, first, second, third)? else {
-        return Ok(None);
-    };
-    let Some(lines) = line_calls(alloc, lanes, after)? else {
-        return Ok(None);
-    };
-    Ok(Some(Script {
-        nodes,
-        lanes,
-        lines,
-    }))
+    let script = read_lines(alloc, bytes)?;
+    Ok(script)
 }

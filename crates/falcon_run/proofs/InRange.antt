@@ -14,11 +14,12 @@ use Rattle.fal_base.specs.PathArgs.{arg_of, err_of}
 use Rattle.fal_base.specs.Paths.{path_of}
 use Rattle.fal_script.specs.Configs.{lane_calls}
 use Rattle.fal_script.specs.Ranges.{IsSpelledScript, IsSpelled, IsSpelledCall, IsSpelledOp}
+use Rattle.fal_script.specs.Verbs.{is_served_verb, verb_of}
 use Rattle.fal_script.specs.declared.script.Script.{Script}
 use Rattle.fal_script.specs.declared.script.ScriptCall.{ScriptCall}
 use Rattle.fal_story.specs.Clusters.{IsCall, IsCluster, IsCallInRange, IsOpInRange, IsPathInRange}
 use Rattle.falcon_run.specs.Headline.{cluster_of}
-use Rattle.falcon_run.proofs.GoodPaths.{good_path}
+use Rattle.fal_script.proofs.GoodPaths.{good_path}
 use Rattle.falcon_run.proofs.ScriptLanes.{few_calls}
 
 -- ---- one call
@@ -30,17 +31,22 @@ read_in_range word (Ok names) is = let good = good_path word names is in let sho
 path_in_range : (path : PathArg) → IsSpelled path → IsPathInRange path
 path_in_range path (word, is) = subst IsPathInRange (sym is) (read_in_range word (path_of word) refl)
 
-op_in_range : (o : Op) → IsSpelledOp o → IsOpInRange o
-op_in_range (op.Mkdir path mode) is = (path_in_range path is.0, is.1)
-op_in_range (op.Create path mode) is = (path_in_range path is.0, is.1)
-op_in_range (op.Stat path) is = path_in_range path is
-op_in_range (op.Access path want) is = (path_in_range path is.0, is.1)
-op_in_range (op.Truncate path size) is = (path_in_range path is.0, is.1)
-op_in_range (op.Unlink path) is = path_in_range path is
-op_in_range other is = absurd is
+op_in_range : (o : Op) → IsSpelledOp o → is_served_verb (verb_of o) ≡ true → IsOpInRange o
+op_in_range (op.Mkdir path mode) is served = (path_in_range path is.0, is.1)
+op_in_range (op.Create path mode) is served = (path_in_range path is.0, is.1)
+op_in_range (op.Stat path) is served = path_in_range path is
+op_in_range (op.Access path want) is served = (path_in_range path is.0, is.1)
+op_in_range (op.Chmod path mode) is served = absurd (cc)
+op_in_range (op.Chown path uid gid) is served = absurd (cc)
+op_in_range (op.Truncate path size) is served = (path_in_range path is.0, is.1)
+op_in_range (op.Unlink path) is served = path_in_range path is
+op_in_range (op.Rmdir path) is served = absurd (cc)
+op_in_range (op.Rename old new) is served = absurd (cc)
+op_in_range (op.List path) is served = absurd (cc)
+op_in_range (op.Place name rule) is served = absurd (cc)
 
 call_in_range : (call : Call) → IsSpelledCall call → IsCallInRange call
-call_in_range call is = record { uid = is.uid; gid = is.gid; op = op_in_range call.op is.op }
+call_in_range call is = record { uid = is.uid; gid = is.gid; op = op_in_range call.op is.op is.served }
 
 -- ---- all calls
 

@@ -1,5 +1,4 @@
 pub mod AllAnswered
-pub mod GoodPaths
 pub mod InRange
 pub mod OpeningServed
 pub mod Owed

@@ -3,6 +3,8 @@ use Rattle.std.proofs.Common.{◌≡◌, ℕ, ◌+◌, ◌<◌, ◌≤◌, ◌�
 use Rattle.std.proofs.lemmas.Bool.Decides.{nat_tests}
 use Rattle.std.specs.Io.KnownBytes.{Consumes, Appends, IsAtEnd}
 use Rattle.fal_io.specs.Causes.{Rose}
+use Rattle.fal_script.specs.declared.fault.ScriptFault.{ScriptFault}
+use Rattle.fal_script.specs.declared.fault.ScriptFault.TheVariants.{Fault}
 use Rattle.fal_script.specs.declared.script.Script.{Script}
 use Rattle.fal_script.specs.Script.{script_of}
 use Rattle.falcon_run.specs.declared.reading.Unread.{Unread}
@@ -28,18 +30,18 @@ front_taken bytes taken (Some left) consumed = let sum : length bytes ≡ length
 within : (bytes : List ℕ) → length bytes ≤ 16777216 → owed bytes ≡ owed_script (script_of bytes)
 within bytes few = ap (λ b. cond b 7 (owed_script (script_of bytes))) (not_below 16777216 (length bytes) few)
 
-script_owed : (bytes taken : List ℕ) (rest : Option (List ℕ)) (script : Script) → Consumes (Some bytes) rest taken → IsAtEnd rest → length taken ≤ 16777216 → script_of taken ≡ Some script
+script_owed : (bytes taken : List ℕ) (rest : Option (List ℕ)) (script : Script) → Consumes (Some bytes) rest taken → IsAtEnd rest → length taken ≤ 16777216 → script_of taken ≡ Ok script
     → length script.lines ≤ 10000 → owed bytes ≡ 0
 script_owed bytes taken rest script consumed end small is few =
     let same = all_taken bytes taken rest consumed end in
     ap owed same ∙ within taken small ∙ ap owed_script is ∙ ap (λ b. cond b 7 0) (not_below 10000 (length script.lines) few)
 
-none_owed : (bytes taken : List ℕ) (rest : Option (List ℕ)) → Consumes (Some bytes) rest taken → IsAtEnd rest → length taken ≤ 16777216 → script_of taken ≡ None → owed bytes ≡ 3
-none_owed bytes taken rest consumed end small script =
+none_owed : (bytes taken : List ℕ) (rest : Option (List ℕ)) (fault : ScriptFault) → Consumes (Some bytes) rest taken → IsAtEnd rest → length taken ≤ 16777216 → script_of taken ≡ Err fault → owed bytes ≡ 3
+none_owed bytes taken rest fault consumed end small script =
     let same = all_taken bytes taken rest consumed end in
     ap owed same ∙ within taken small ∙ ap owed_script script
 
-too_many : (b : Bool) (script : Option Script) → owed_script script ≡ 7 → cond b 7 (owed_script script) ≡ 7
+too_many : (b : Bool) (script : Result Script ScriptFault) → owed_script script ≡ 7 → cond b 7 (owed_script script) ≡ 7
 too_many true script is = refl
 too_many false script is = is
 
@@ -55,7 +57,7 @@ pub gives_owed : (bytes : List ℕ) (rest : Option (List ℕ)) (before now : ℕ
 gives_owed bytes rest before now (Ok script) is calm = script_owed bytes is.0 rest script is.1 is.2 is.3 is.4 is.5
 gives_owed bytes rest before now (Err ReadFault) is calm = calm is.0
 gives_owed bytes rest before now (Err TooLarge) is calm = large_owed bytes is.0 rest is.1 is.2
-gives_owed bytes rest before now (Err NoScript) is calm = none_owed bytes is.0 rest is.1 is.2 is.3 is.4
+gives_owed bytes rest before now (Err (NoScript line rule)) is calm = none_owed bytes is.0 rest (Fault line rule) is.1 is.2 is.3 is.4
 gives_owed bytes rest before now (Err OutOfMemory) is calm = tt
 
 pub told : (bytes : List ℕ) (left rest : Option (List ℕ)) (before now : ℕ) (result : Result Script Unread) → left ≡ Some bytes → GivesScript left rest before now result → (Rose before now → ⊥) → OwedFor result bytes

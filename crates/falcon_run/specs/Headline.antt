@@ -1,11 +1,14 @@
 -- What a run of the program answers and writes.
-use Rattle.std.specs.Prelude.{◌≡◌, ◌⊎◌, ℕ, ◌<◌, ◌≤◌, nat_lt, if◌then◌else◌, List, [], ◌∷◌, length, map, codes, Option, Some, None, string_bytes}
+use Rattle.std.specs.Prelude.{◌≡◌, ◌⊎◌, ℕ, ◌<◌, ◌≤◌, nat_lt, if◌then◌else◌, List, [], ◌∷◌, ◌++◌, length, map, codes, Option, Some, None, Result, Ok, Err, string_bytes}
 use Rattle.std.specs.declared.string.String.{String}
 use Rattle.std.specs.declared.alloc.Global.{Global}
+use Rattle.std.specs.Fmt.{decimal}
 use Rattle.std.specs.Io.KnownBytes.{Consumes, Appends, IsAtEnd}
 use Rattle.fal_base.specs.declared.call.Config.{Config}
 use Rattle.fal_base.specs.declared.event.Event.{Event}
 use Rattle.fal_io.specs.Causes.{Rose, AppendsFront}
+use Rattle.fal_script.specs.declared.fault.ScriptFault.{ScriptFault}
+use Rattle.fal_script.specs.declared.fault.ScriptFault.TheVariants.{Fault}
 use Rattle.fal_script.specs.declared.script.Script.{Script}
 use Rattle.fal_script.specs.Configs.{config_of_script, order_of}
 use Rattle.fal_script.specs.Script.{script_of}
@@ -32,8 +35,9 @@ IsStatus status = (status ≡ 0) ⊎ (status ≡ 2) ⊎ (status ≡ 3) ⊎ (stat
 abbrev pub usage_line : List ℕ
 usage_line = codes "falcon: usage\n"
 
-abbrev pub script_line : List ℕ
-script_line = codes "falcon: script\n"
+-- with the line of the script that breaks a rule, and the rule
+abbrev pub script_line : ℕ → ℕ → List ℕ
+script_line line rule = codes "falcon: script line " ++ decimal line ++ codes " rule " ++ decimal rule ++ codes "\n"
 
 abbrev pub fault_line : List ℕ
 fault_line = codes "falcon: read fault\n"
@@ -43,16 +47,16 @@ large_line = codes "falcon: too large\n"
 
 -- the bytes are a script of more calls than are served
 abbrev pub HasTooMany : List ℕ → Type 0
-HasTooMany bytes = (script : Script) × (script_of bytes ≡ Some script) × (10000 < length script.lines)
+HasTooMany bytes = (script : Script) × (script_of bytes ≡ Ok script) × (10000 < length script.lines)
 
 -- the source gave all that it had, a script of not too many calls
 abbrev pub GaveScript : Option (List ℕ) → Option (List ℕ) → Script → Type 0
 GaveScript left rest script =
-    (bytes : List ℕ) × Consumes left rest bytes × IsAtEnd rest × (length bytes ≤ 16777216) × (script_of bytes ≡ Some script) × (length script.lines ≤ 10000)
+    (bytes : List ℕ) × Consumes left rest bytes × IsAtEnd rest × (length bytes ≤ 16777216) × (script_of bytes ≡ Ok script) × (length script.lines ≤ 10000)
 
--- the source gave all that it had, within the limit, and that is no script
-abbrev pub GaveNoScript : Option (List ℕ) → Option (List ℕ) → Type 0
-GaveNoScript left rest = (bytes : List ℕ) × Consumes left rest bytes × IsAtEnd rest × (length bytes ≤ 16777216) × (script_of bytes ≡ None)
+-- the source gave all that it had, within the limit, and that is no script: this line is the first that breaks a rule, and this rule the lowest
+abbrev pub GaveNoScript : Option (List ℕ) → Option (List ℕ) → ℕ → ℕ → Type 0
+GaveNoScript left rest line rule = (bytes : List ℕ) × Consumes left rest bytes × IsAtEnd rest × (length bytes ≤ 16777216) × (script_of bytes ≡ Err (Fault line rule))
 
 -- the source gave more bytes than are read, or all that it had, a script of too many calls
 abbrev pub GaveTooMuch : Option (List ℕ) → Option (List ℕ) → Type 0
@@ -62,9 +66,9 @@ GaveTooMuch left rest = (bytes : List ℕ) × Consumes left rest bytes × ((1677
 abbrev pub LostFront : Option (List ℕ) → Option (List ℕ) → Type 0
 LostFront left rest = (bytes : List ℕ) × Consumes left rest bytes
 
-abbrev pub owed_script : Option Script → ℕ
-owed_script None = 3
-owed_script (Some script) = if nat_lt 10000 (length script.lines) then 7 else 0
+abbrev pub owed_script : Result Script ScriptFault → ℕ
+owed_script (Err fault) = 3
+owed_script (Ok script) = if nat_lt 10000 (length script.lines) then 7 else 0
 
 -- the status that these bytes are owed where no stream fails
 abbrev pub owed : List ℕ → ℕ
@@ -74,10 +78,14 @@ owed bytes = if nat_lt 16777216 (length bytes) then 7 else owed_script (script_o
 abbrev pub Wrote : List ℕ → Option (List ℕ) → Option (List ℕ) → ℕ → ℕ → Type 0
 Wrote text held holds before now = Appends held holds text ⊎ (Rose before now × AppendsFront held holds text)
 
+-- the source gave no script, and the line that tells where was written
+abbrev pub ToldFault : Option (List ℕ) → Option (List ℕ) → Option (List ℕ) → Option (List ℕ) → ℕ → ℕ → Type 0
+ToldFault left rest held holds before now = (line : ℕ) × (rule : ℕ) × (GaveNoScript left rest line rule × Wrote (script_line line rule) held holds before now)
+
 -- with want of memory: what was written is a front of the text of the script's run, or of a refusal's line
 abbrev pub IsWritten : Option (List ℕ) → Option (List ℕ) → Option Config → List Event → List ℕ → Type 0
 IsWritten left rest traced events text =
-    (text ≡ usage_line) ⊎ (text ≡ script_line) ⊎ (text ≡ fault_line) ⊎ (text ≡ large_line)
+    (text ≡ usage_line) ⊎ ((line : ℕ) × (rule : ℕ) × (GaveNoScript left rest line rule × (text ≡ script_line line rule))) ⊎ (text ≡ fault_line) ⊎ (text ≡ large_line)
     ⊎ ((script : Script) × ((config : Config) × (GaveScript left rest script × (traced ≡ Some config) × IsRunOf script config events × (text ≡ run_text config events))))
 
 -- the trace has no run, or a legal one of the script's cluster

@@ -1,10 +1,9 @@
-ghost use Rattle.std.specs.Prelude.{◌≡◌, Option, Some, Result, List, ℕ};
+ghost use Rattle.std.specs.Prelude.{◌≡◌, ◌≤◌, length, Option, Some, Result, List, ℕ};
 ghost use Rattle.fal_io.specs.Causes.{Rose};
 ghost use Rattle.falcon_run.specs.Reading.{IsReading, IsScript, OwedFor};
 
-use fal_base::OutOfMemory;
 use fal_io::{ReadAll, Source, read_all};
-use fal_script::{Script, read};
+use fal_script::{Script, ScriptFault, read};
 use std::alloc::Global;
 
 const BYTES: usize = 16_777_216;
@@ -16,24 +15,26 @@ const CALLS: usize = 10_000;
 pub enum Unread {
     ReadFault,
     TooLarge,
-    NoScript,
+    /// The first line that breaks a rule, and the lowest rule that it breaks.
+    NoScript { line: u32, rule: u8 },
     OutOfMemory,
 }
 
 // The script of bytes that were read whole.
 fn script_of(alloc: Global, bytes: &[u8]) -> Result<Script, Unread>
+    requires { length bytes.now ≤ 16777216 }
     ensures { IsScript bytes.now result }
 {
     match read(alloc, bytes) {
-        Ok(Some(script)) => {
+        Ok(script) => {
             if script.lines.len() > CALLS {
                 Err(Unread::TooLarge)
             } else {
                 Ok(script)
             }
         }
-        Ok(None) => Err(Unread::NoScript),
-        Err(OutOfMemory) => Err(Unread::OutOfMemory),
+        Err(ScriptFault::Fault { line, rule }) => Err(Unread::NoScript { line, rule }),
+        Err(ScriptFault::OutOfMemory) => Err(Unread::OutOfMemory),
     }
 }
 

@@ -7,7 +7,7 @@ ghost use Rattle.falcon_run.specs.Serving.{HasCallsFor};
 ghost use Rattle.fal_script.specs.Ranges.{IsSpelledScript};
 ghost use Rattle.fal_story.specs.Clusters.{IsCluster};
 ghost use Rattle.fal_story.specs.Run.{IsLegal};
-ghost use Rattle.falcon_run.specs.Headline.{IsSerial, cluster_of, usage_line, script_line, fault_line, large_line, GaveNoScript, GaveTooMuch, IsStatus, Wrote, IsDone, IsCutOff, WantsMemory, owed};
+ghost use Rattle.falcon_run.specs.Headline.{IsSerial, cluster_of, usage_line, script_line as script_line_of, fault_line, large_line, ToldFault, GaveTooMuch, IsStatus, Wrote, IsDone, IsCutOff, WantsMemory, owed};
 
 use crate::reading::{Unread, read_script};
 use crate::serving::serve;
@@ -18,6 +18,7 @@ use fal_io::{Failed, Sink, Source, put_all};
 use fal_script::{Script, into_config, scripts_are_in_range};
 use fal_story::{Run, calls_in_range_may_run};
 use std::alloc::Global;
+use std::io::Write;
 
 /// The one run that took place: the cluster, and the events in their order.
 #[derive(Debug, Drop)]
@@ -43,6 +44,25 @@ fn refuse<K: Sink>(sink: &mut K, line: &[u8], status: u8) -> u8
     match put_all(sink, line) {
         Ok(()) | Err(Failed::Fault) => status,
         Err(Failed::OutOfMemory) => 6,
+    }
+}
+
+// The line that tells which line of a script breaks which rule.
+fn script_line(alloc: Global, line: u32, rule: u8) -> Result<Vec<u8>, OutOfMemory>
+    ensures { IfOk result (λ text. text.items ≡ script_line_of line rule) }
+{
+    let mut text = Vec::new(alloc);
+    writeln!(text, "falcon: script line {line} rule {rule}").map_err(|_| OutOfMemory)?;
+    Ok(text)
+}
+
+// Writes the line of a script's fault. Its status stays, unless memory is wanted for the line or by the sink.
+fn refuse_script<K: Sink>(alloc: Global, sink: &mut K, line: u32, rule: u8) -> u8
+    ensures { Refuses 3 (script_line_of line rule) (K.holds sink.old) (K.holds sink.new) (K.faults sink.old) (K.faults sink.new) result }
+{
+    match script_line(alloc, line, rule) {
+        Ok(text) => refuse(sink, &text, 3),
+        Err(OutOfMemory) => 6,
     }
 }
 
@@ -110,7 +130,8 @@ fn run_script<K: Sink>(alloc: Global, script: Script, sink: &mut K, trace: &mut 
 ///   never stood; one to a change of placement is by what was placed; every other reply is the plain tree's at one point of the commits between
 ///   the call's sending and its answering.
 /// - 2, `falcon: usage`: the words are not the one word `serial`. Nothing was read.
-/// - 3, `falcon: script`: the bytes, within the limit, are not in the grammar.
+/// - 3, `falcon: script line L rule R`: the bytes, within the limit, are not in the grammar. L is the first line that breaks a rule, counted from
+///   1, and R the lowest rule that it breaks.
 /// - 4, `falcon: read fault`: the source's count of faults rose, and at most 16,777,216 bytes had come.
 /// - 5: the sink's count of faults rose while the text was written, of which it has a front. `trace` is as with 0.
 /// - 6: want of memory. The sink has a front of the text or of a line. `trace` is empty, or has a legal run of the script's cluster.
@@ -132,15 +153,14 @@ pub fn run_serial<S: Source, K: Sink>(
     // What each status says of the words and of the bytes that were read.
     ensures done { result ≡ 0 → IsDone (S.left source.old) (S.left source.new) (K.holds sink.old) (K.holds sink.new) trace.new.config trace.new.events.items }
     ensures usage { result ≡ 2 → (IsSerial words.now → ⊥) × (source.new ≡ source.old) }
-    ensures script { result ≡ 3 → GaveNoScript (S.left source.old) (S.left source.new) }
+    ensures script { result ≡ 3 → ToldFault (S.left source.old) (S.left source.new) (K.holds sink.old) (K.holds sink.new) (K.faults sink.old) (K.faults sink.new) }
     ensures fault { result ≡ 4 → Rose (S.faults source.old) (S.faults source.new) × Took (S.left source.old) (S.left source.new) (λ n. n ≤ 16777216) }
     ensures cut_off { result ≡ 5 → Rose (K.faults sink.old) (K.faults sink.new) × IsCutOff (S.left source.old) (S.left source.new) (K.holds sink.old) (K.holds sink.new) trace.new.config trace.new.events.items }
     ensures memory { result ≡ 6 → WantsMemory (S.left source.old) (S.left source.new) (K.holds sink.old) (K.holds sink.new) trace.new.config trace.new.events.items }
     ensures large { result ≡ 7 → GaveTooMuch (S.left source.old) (S.left source.new) }
 
-    // The line that is written with a refusal's status.
+    // The line that is written with a refusal's status; what is written with status 3 stands above.
     ensures usage_written { result ≡ 2 → Wrote usage_line (K.holds sink.old) (K.holds sink.new) (K.faults sink.old) (K.faults sink.new) }
-    ensures script_written { result ≡ 3 → Wrote script_line (K.holds sink.old) (K.holds sink.new) (K.faults sink.old) (K.faults sink.new) }
     ensures fault_written { result ≡ 4 → Wrote fault_line (K.holds sink.old) (K.holds sink.new) (K.faults sink.old) (K.faults sink.new) }
     ensures large_written { result ≡ 7 → Wrote large_line (K.holds sink.old) (K.holds sink.new) (K.faults sink.old) (K.faults sink.new) }
 
@@ -161,7 +181,7 @@ pub fn run_serial<S: Source, K: Sink>(
         Ok(script) => run_script(alloc, script, sink, trace),
         Err(Unread::ReadFault) => refuse(sink, b"falcon: read fault\n", 4),
         Err(Unread::TooLarge) => refuse(sink, b"falcon: too large\n", 7),
-        Err(Unread::NoScript) => refuse(sink, b"falcon: script\n", 3),
+        Err(Unread::NoScript { line, rule }) => refuse_script(alloc, sink, line, rule),
         Err(Unread::OutOfMemory) => 6,
     }
 }

@@ -1,6 +1,7 @@
 use crate::running::{Ran, run, run_with, whole};
 use fal_io::{MemSink, MemSource};
 use std::alloc::Global;
+use std::io::Write;
 use std::test::Fail;
 
 const HEADER: &str = "falcon-script 1\nnodes 1\nlanes 1\n";
@@ -26,51 +27,118 @@ fn other_words_are_usage(rt: HostRuntime) -> Result<(), Fail> {
     Ok(())
 }
 
-#[test]
-fn other_lines_are_no_script(rt: HostRuntime) -> Result<(), Fail> {
-    let table: [&[u8]; 16] = [
-        b"1 0:0 stat /a",
-        b"2 0:0 stat /a\n",
-        b"0 0:0 stat /a\n",
-        b"1 0:0 Stat /a\n",
-        b"1 0:0 stat /a b\n",
-        b"1 0:0 stat\n",
-        b"1 0:0 stat \n",
-        b"1 0:0  stat /a\n",
-        b"1 0 stat /a\n",
-        b"1 0:4294967296 stat /a\n",
-        b"1 0:0 fly /a\n",
-        b"1 0:0 mkdir /a 75\n",
-        b"1 0:0 mkdir /a 778\n",
-        b"1 0:0 access /a 8\n",
-        b"1 0:0 truncate /a 9223372036854775808\n",
-        b"1 0:0 stat /%41\n",
-    ];
-    for line in table {
-        let mut script = Vec::from_slice(rt.alloc(), HEADER.as_bytes())?;
-        script.extend_from_slice(line)?;
-        let ran = run(rt.alloc(), &script)?;
-        assert_eq!(rt; ran.status, 3, "{line:?}");
-        assert_eq!(rt; ran.text.as_slice(), b"falcon: script\n".as_slice());
+// A script that is refused, with the first line that breaks a rule and the lowest rule that it breaks.
+type Faulty = (&'static [u8], u32, u8);
+
+// After a whole header, which has three lines.
+const CALLS: [Faulty; 24] = [
+    (b"1 0:0\n", 4, 5),
+    (b"1\n", 4, 5),
+    (b"2 0:0 stat /a\n", 4, 6),
+    (b"0 0:0 stat /a\n", 4, 6),
+    (b"9 0:0 fly /a\n", 4, 6),
+    (b"1 0 stat /a\n", 4, 7),
+    (b"1 0:0:0 stat /a\n", 4, 7),
+    (b"1 0:4294967296 stat /a\n", 4, 7),
+    (b"1 0:0 Stat /a\n", 4, 8),
+    (b"1 0:0 fly /a\n", 4, 8),
+    // no cluster serves it yet
+    (b"1 0:0 list /a\n", 4, 8),
+    (b"1 0:0 stat\n", 4, 9),
+    (b"1 0:0 stat /a b\n", 4, 9),
+    (b"1 0:0 stat /a%\n", 4, 10),
+    (b"1 0:0 stat /%4g\n", 4, 10),
+    (b"1 0:0 mkdir /%2 1000\n", 4, 10),
+    (b"1 0:0 mkdir /a 1000\n", 4, 11),
+    (b"1 0:0 mkdir /a 00007\n", 4, 11),
+    (b"1 0:0 create /a 8\n", 4, 11),
+    (b"1 0:0 access /a 8\n", 4, 11),
+    (b"1 0:0 truncate /a 9223372036854775808\n", 4, 11),
+    // lines that are skipped count, too
+    (b"# none\n\n \t\n1 0:0 stat /a\n1 0:0\n1\n", 8, 5),
+    // a line ends with a line feed alone
+    (b"1 0:0 mkdir /a 755\r\n", 4, 11),
+    // a line that no line feed ends is a line
+    (b"1 0:0 stat", 4, 9),
+];
+
+const HEADERS: [Faulty; 16] = [
+    (b"falcon-script 2\nnodes 1\nlanes 1\n", 1, 2),
+    (b"falcon-script 01\nnodes 1\nlanes 1\n", 1, 2),
+    (b"falcon-script 1 1\nnodes 1\nlanes 1\n", 1, 2),
+    (b"nodes 1\nlanes 1\n", 1, 2),
+    (b"falcon-script 1\nlanes 1\nnodes 1\n", 2, 3),
+    (b"falcon-script 1\nnodes 0\nlanes 1\n", 2, 3),
+    (b"falcon-script 1\nnodes 17\nlanes 1\n", 2, 3),
+    (
+        b"falcon-script 1\nnodes 000000000000000000001\nlanes 1\n",
+        2,
+        3,
+    ),
+    (b"falcon-script 1\n#\nnodes 1\nlanes 0\n", 4, 4),
+    (b"falcon-script 1\nnodes 1\nlanes 17\n", 3, 4),
+    (b"falcon-script 1\nnodes 1\nlanes\n", 3, 4),
+    (b"", 1, 14),
+    (b"\n\n", 3, 14),
+    (b"falcon-script 1", 2, 14),
+    (b"falcon-script 1\nnodes 1\n", 3, 14),
+    (b"falcon-script 1\n# nodes 1\nnodes 1", 4, 14),
+];
+
+// What is written with status 3.
+fn told(alloc: Global, line: u32, rule: u8) -> Result<Vec<u8>, Fail> {
+    let mut text = Vec::new(alloc);
+    writeln!(text, "falcon: script line {line} rule {rule}")?;
+    Ok(text)
+}
+
+// Each of these scripts, after this front, is refused with its line and rule.
+fn are_told(alloc: Global, front: &[u8], scripts: &[Faulty]) -> Result<bool, Fail> {
+    for (script, line, rule) in scripts {
+        let mut bytes = Vec::from_slice(alloc, front)?;
+        bytes.extend_from_slice(script)?;
+        let ran = run(alloc, &bytes)?;
+        let text = told(alloc, *line, *rule)?;
+        if ran.status != 3 || ran.text.as_slice() != text.as_slice() {
+            return Ok(false);
+        }
     }
+    Ok(true)
+}
+
+#[test]
+fn a_faulty_call_is_told(rt: HostRuntime) -> Result<(), Fail> {
+    assert!(rt; are_told(rt.alloc(), HEADER.as_bytes(), &CALLS)?);
     Ok(())
 }
 
 #[test]
-fn other_headers_are_no_script(rt: HostRuntime) -> Result<(), Fail> {
-    let table: [&[u8]; 8] = [
-        b"",
-        b"falcon-script 1\nnodes 1\n",
-        b"falcon-script 1\nnodes 0\nlanes 1\n",
-        b"falcon-script 1\nnodes 17\nlanes 1\n",
-        b"falcon-script 1\nnodes 1\nlanes 0\n",
-        b"falcon-script 1\nnodes 1\nlanes 17\n",
-        b"falcon-script 2\nnodes 1\nlanes 1\n",
-        b"falcon-script 1\nlanes 1\nnodes 1\n",
-    ];
-    for script in table {
-        assert_eq!(rt; run(rt.alloc(), script)?.status, 3, "{script:?}");
-    }
+fn a_faulty_header_is_told(rt: HostRuntime) -> Result<(), Fail> {
+    assert!(rt; are_told(rt.alloc(), b"", &HEADERS)?);
+    Ok(())
+}
+
+// Comments, empty lines, tabs, leading zeros, escapes of either case, and no line feed at the end.
+const ODD: &[u8] =
+    b"# odd\n\n\tfalcon-script \t 1 \nnodes 01\n#\nlanes 00001\n \n01 00:0\tmkdir /%61 0755\n 1 0:0 stat %2f%2Fa%2f\n1 0:0 stat /a%00";
+
+const ODD_TEXT: &[u8] = b"falcon-transcript 1
+nodes 1
+lanes 1
+sent 1.1 0:0 mkdir /a 755
+commit 1.1 256
+answered 1.1 0 ok
+sent 1.2 0:0 stat /a
+answered 1.2 1 stat 256 dir 755 0:0 0
+sent 1.3 0:0 stat /a%00
+answered 1.3 1 EINVAL
+";
+
+#[test]
+fn an_odd_script_is_one(rt: HostRuntime) -> Result<(), Fail> {
+    let ran = run(rt.alloc(), ODD)?;
+    assert_eq!(rt; ran.status, 0);
+    assert!(rt; ran.text.starts_with(ODD_TEXT));
     Ok(())
 }
 
@@ -84,10 +152,12 @@ type Long = (
     &'static str,
 );
 
-// A line has at most 16,384 bytes, and a script 16,777,216.
-const LONG: [Long; 3] = [
+// A line has at most 16,384 bytes, also one that is skipped, and a script 16,777,216.
+const LONG: [Long; 5] = [
     (CALL, "a", 16_372, "\n", 0, "falcon-transcript 1\n"),
-    (CALL, "a", 16_373, "\n", 3, "falcon: script\n"),
+    (CALL, "a", 16_373, "\n", 3, "falcon: script line 4 rule 1\n"),
+    (HEADER, "#", 16_384, "", 0, "falcon-transcript 1\n"),
+    (HEADER, " ", 16_385, "", 3, "falcon: script line 4 rule 1\n"),
     (
         "x",
         "0123456789abcdef",

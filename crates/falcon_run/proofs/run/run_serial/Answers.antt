@@ -1,5 +1,5 @@
 use Rattle.falcon_run.proofs.InRange.{script_may_run}
-use Rattle.falcon_run.proofs.Wants.{reading_wants, run_wants}
+use Rattle.falcon_run.proofs.Wants.{fault_wants, gave_fault, reading_wants, run_wants}
 use Rattle.falcon_run.proofs.run.run_serial.Goals as goal
 
 pub run_script-requires-clause-cluster : goal.run_script-requires-clause-cluster
@@ -19,3 +19,16 @@ pub returns-in-Err-OutOfMemory-clause-memory : goal.returns-in-Err-OutOfMemory-c
 returns-in-Err-OutOfMemory-clause-memory g c is =
     reading_wants (g.S.Source.left c.args.source.now) (g.S.Source.left c.read_script.new.source) (g.K.Sink.holds c.args.sink.now) c.args.trace.now.config c.args.trace.now.events.items c.read_script.ensures.reading.lost
     c.requires.config c.requires.events
+
+pub returns-in-Err-NoScript-clause-script : goal.returns-in-Err-NoScript-clause-script
+returns-in-Err-NoScript-clause-script g c is =
+    let gave = gave_fault (g.S.Source.left c.args.source.now) (g.S.Source.left c.read_script.new.source) (g.S.Source.faults c.args.source.now) (g.S.Source.faults c.read_script.new.source) c.in-Err-NoScript.field-0
+    c.in-Err-NoScript.line c.in-Err-NoScript.rule c.in-Err-NoScript.field-0-is c.in-Err-NoScript.ensures.reading.gives in
+    (c.in-Err-NoScript.line, c.in-Err-NoScript.rule, (gave, c.refuse_script.ensures.whole is))
+
+pub returns-in-Err-NoScript-clause-memory : goal.returns-in-Err-NoScript-clause-memory
+returns-in-Err-NoScript-clause-memory g c is =
+    let gave = gave_fault (g.S.Source.left c.args.source.now) (g.S.Source.left c.read_script.new.source) (g.S.Source.faults c.args.source.now) (g.S.Source.faults c.read_script.new.source) c.in-Err-NoScript.field-0
+    c.in-Err-NoScript.line c.in-Err-NoScript.rule c.in-Err-NoScript.field-0-is c.in-Err-NoScript.ensures.reading.gives in
+    fault_wants (g.S.Source.left c.args.source.now) (g.S.Source.left c.read_script.new.source) (g.K.Sink.holds c.args.sink.now) (g.K.Sink.holds c.refuse_script.new.sink) c.args.trace.now.config c.args.trace.now.events.items
+    c.in-Err-NoScript.line c.in-Err-NoScript.rule gave c.read_script.ensures.reading.lost c.refuse_script.ensures.front c.requires.config c.requires.events

@@ -1,4 +1,4 @@
--- The names of a path that was read can stand in a record.
+-- The names of a path that was read are names, and few.
 use Rattle.std.proofs.Common.{◌≡◌, ℕ, ◌+◌, ◌<◌, ◌≤◌, nat_lt, Bool, true, false, not, ◌||◌, ◌&&◌, cond, List, [], ◌∷◌, length, filter, Ok, Err, refl, ap, ◌∙◌, subst, arith}
 use Rattle.std.specs.Prelude.{◌==◌, nat_le, is_ok}
 use Rattle.std.specs.List.{AllByRecursion, list_any, list_all, slice_split, onto_first, starts_with}
@@ -20,7 +20,7 @@ none_of : {A : Type 0} (test : A → Bool) (xs : List A) → list_any test xs �
 none_of test [] e = tt
 none_of test (x ∷ xs) e = let both = neither (test x) (list_any test xs) e in (both.0, none_of test xs both.1)
 
-each_kept : {A : Type 0} (P : A → Type 0) (test : A → Bool) (xs : List A) → AllByRecursion P xs → AllByRecursion (λ x. P x × (test x ≡ true)) (filter test xs)
+pub each_kept : {A : Type 0} (P : A → Type 0) (test : A → Bool) (xs : List A) → AllByRecursion P xs → AllByRecursion (λ x. P x × (test x ≡ true)) (filter test xs)
 each_kept P test [] each = tt
 each_kept P test (x ∷ xs) each =
     elim (test x) as (λ b. test x ≡ b → AllByRecursion (λ y. P y × (test y ≡ true)) (cond b (x ∷ filter test xs) (filter test xs))) [
@@ -28,7 +28,7 @@ each_kept P test (x ∷ xs) each =
       | false ↦ λ is. each_kept P test xs each.1
     ] refl
 
-each_of_both : {A : Type 0} (P Q : A → Type 0) (xs : List A) → AllByRecursion P xs → AllByRecursion Q xs → AllByRecursion (λ x. P x × Q x) xs
+pub each_of_both : {A : Type 0} (P Q : A → Type 0) (xs : List A) → AllByRecursion P xs → AllByRecursion Q xs → AllByRecursion (λ x. P x × Q x) xs
 each_of_both P Q [] h k = tt
 each_of_both P Q (x ∷ xs) h k = ((h.0, k.0), each_of_both P Q xs h.1 k.1)
 
@@ -89,13 +89,13 @@ kept_bytes test (part ∷ parts) =
 -- ---- a path that was read
 
 -- the bytes break no rule
-record Passes (bytes : List ℕ) (names : List (List ℕ)) : Type 0 where
+pub record Passes (bytes : List ℕ) (names : List (List ℕ)) : Type 0 where
   absolute : breaks Relative bytes ≡ false
   short : breaks TooLong bytes ≡ false
   short_names : breaks NameTooLong bytes ≡ false
   no_dot : breaks Dot bytes ≡ false
   no_zero : breaks ZeroByte bytes ≡ false
-  names_are : components bytes ≡ names
+  pub names_are : components bytes ≡ names
 
 all_passed : (a b c d e : Bool) (r names : List (List ℕ)) → cond a (Err Relative) (cond b (Err TooLong) (cond c (Err NameTooLong) (cond d (Err Dot) (cond e (Err ZeroByte) (Ok r))))) ≡ Ok names
     → (a ≡ false) × (b ≡ false) × (c ≡ false) × (d ≡ false) × (e ≡ false) × (r ≡ names)
@@ -106,7 +106,7 @@ all_passed false false false true e r names is = absurd (cc)
 all_passed false false false false true r names is = absurd (cc)
 all_passed false false false false false r names is = (refl, refl, refl, refl, refl, cc)
 
-passes : (bytes : List ℕ) (names : List (List ℕ)) → path_of bytes ≡ Ok names → Passes bytes names
+pub passes : (bytes : List ℕ) (names : List (List ℕ)) → path_of bytes ≡ Ok names → Passes bytes names
 unfolding path_of
 passes bytes names is =
     let all = all_passed (breaks Relative bytes) (breaks TooLong bytes) (breaks NameTooLong bytes) (breaks Dot bytes) (breaks ZeroByte bytes) (components bytes) names is in
