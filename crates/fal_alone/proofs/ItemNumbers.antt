@@ -19,7 +19,7 @@ use Rattle.fal_coord.specs.State.{Work as CoordWork}
 use Rattle.fal_coord.specs.Step.{coord_step}
 use Rattle.fal_exec.specs.RowCall.{row_names}
 use Rattle.fal_node.specs.declared.batch.Batch.{Batch}
-use Rattle.fal_node.specs.declared.batch.BatchCall.{BatchCall}
+use Rattle.fal_run.specs.declared.call.BatchCall.{BatchCall}
 use Rattle.fal_node.specs.declared.event.NodeEvent.{NodeEvent}
 use Rattle.fal_node.specs.declared.event.NodeEvent.TheVariants.{Deliver, Gather, Exec, Release, Serve}
 use Rattle.fal_node.specs.declared.item.Item.{Item}

@@ -5,7 +5,7 @@ use Rattle.fal_base.specs.declared.key.Key.{Key}
 use Rattle.fal_locks.specs.Locks.{first_shut}
 use Rattle.fal_wait.specs.Waiting.{WaitList, is_new, with_call, without_call}
 use Rattle.fal_batch.specs.declared.parts.Wanted.{Wanted}
-use Rattle.fal_node.specs.declared.batch.BatchCall.{BatchCall}
+use Rattle.fal_run.specs.declared.call.BatchCall.{BatchCall}
 use Rattle.fal_node.specs.declared.patch.Patch.{Patch}
 use Rattle.fal_node.specs.declared.patch.Patch.TheVariants as patch
 use Rattle.fal_node.specs.State.{NodeState, with_item}
@@ -14,7 +14,7 @@ use Rattle.fal_node.specs.Deliver.{admitted, without_calls}
 use Rattle.fal_node.specs.Gather.{with_fetches, with_waiting, batched, with_batch}
 use Rattle.fal_node.specs.Exec.{with_executed}
 use Rattle.fal_node.specs.Patch.{patched, with_rows}
-use Rattle.fal_node.specs.Sound.{are_row_calls}
+use Rattle.fal_run.specs.Calls.{are_row_calls}
 use Rattle.fal_node.specs.Step.{IsWithin}
 use Rattle.fal_node.specs.Ready.{CanHaveBatch, CanChange, CanDraft}
 use Rattle.fal_node.proofs.Pushed.{opened-with_fetches}

@@ -13,14 +13,15 @@ use Rattle.fal_batch.specs.Plan.{is_idle}
 use Rattle.fal_batch.specs.declared.parts.Planned.{Planned}
 use Rattle.fal_batch.specs.declared.parts.Sending.{Sending}
 use Rattle.fal_batch.specs.declared.parts.Sending.TheVariants as sending
-use Rattle.fal_node.specs.declared.batch.BatchCall.{BatchCall}
+use Rattle.fal_run.specs.declared.call.BatchCall.{BatchCall}
 use Rattle.fal_node.specs.State.{NodeState}
 use Rattle.fal_node.specs.declared.event.NodeEvent.TheVariants.{Gather}
 use Rattle.fal_node.specs.Gather.{plan_at, gathered, away_letter, ask_letter, gather_letters, batch_call, batch_calls}
 use Rattle.fal_node.specs.Step.{node_step}
 use Rattle.fal_node.specs.Sends.{sending_letters, next_number}
-use Rattle.fal_node.specs.Sound.{is_row_op, are_row_waiters, are_row_calls}
-use Rattle.fal_node.proofs.Within.{hop_fits}
+use Rattle.fal_node.specs.Sound.{are_row_waiters}
+use Rattle.fal_run.specs.Calls.{is_row_op, are_row_calls}
+use Rattle.fal_run.proofs.Within.{hop_fits}
 use Rattle.fal_wait.proofs.Ascending.{both, first_of_both, second_of_both}
 
 pub gather_letters-cons : (n : NodeState) (number : ℕ) (x : Sending) (xs : List Sending) → gather_letters n number (x ∷ xs) ≡ sending_letters n number x ++ gather_letters n (next_number number x) xs

@@ -1,20 +1,14 @@
 -- One more at the end of a list of changes.
 use Rattle.std.proofs.Common.{◌≡◌, ◌+◌, List, [], ◌∷◌, ◌++◌, length, cond, refl, arith}
 use Rattle.std.proofs.lemmas.List.Sums.{sum_by_push}
-use Rattle.fal_base.specs.Tree.{Tree}
 use Rattle.fal_wait.specs.Lists.{IsPartOf}
 use Rattle.fal_wait.specs.Waiting.{WaitList, free_tickets, after_open}
 use Rattle.fal_wait.proofs.Bounds.{opened-after_open}
 use Rattle.fal_batch.specs.declared.parts.Wanted.{Wanted}
-use Rattle.fal_node.specs.declared.patch.RowChange.{RowChange}
-use Rattle.fal_node.specs.Exec.{rows_after}
-use Rattle.fal_node.specs.Patch.{is_put, puts_in, rows_changed}
+use Rattle.fal_run.specs.declared.change.RowChange.{RowChange}
+use Rattle.fal_node.specs.Patch.{is_put, puts_in}
 use Rattle.fal_node.specs.Gather.{with_fetches}
 use Rattle.fal_node.specs.Ready.{CanOpen}
-
-pub rows_changed-push : (rows : Tree) (cs : List RowChange) (c : RowChange) → rows_changed rows (cs ++ c ∷ []) ≡ rows_after (rows_changed rows cs) c.key c.change
-rows_changed-push rows [] c = refl
-rows_changed-push rows (x ∷ cs) c = rows_changed-push (rows_after rows x.key x.change) cs c
 
 pub with_fetches-push : (list : WaitList) (fs : List Wanted) (f : Wanted) → with_fetches list (fs ++ f ∷ []) ≡ after_open (with_fetches list fs) f.key f.waiters
 with_fetches-push list [] f = refl

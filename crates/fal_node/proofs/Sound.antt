@@ -11,7 +11,7 @@ use Rattle.fal_wait.specs.Lists.{are_ascending, without_first, has_number}
 use Rattle.fal_wait.specs.Waiting.{WaitList, with_call, after_admit, is_new, without_call, after_open, on_fetch, off_fetch, waits_on, without_fetch, after_settle, settled_by, fetch_of}
 use Rattle.fal_batch.specs.declared.parts.Wanted.{Wanted}
 use Rattle.fal_node.specs.declared.batch.Batch.{Batch}
-use Rattle.fal_node.specs.declared.batch.BatchCall.{BatchCall}
+use Rattle.fal_run.specs.declared.call.BatchCall.{BatchCall}
 use Rattle.fal_node.specs.declared.item.Item.{Item}
 use Rattle.fal_node.specs.Deliver.{without_calls}
 use Rattle.fal_node.specs.State.{NodeState}
@@ -19,7 +19,8 @@ use Rattle.fal_node.specs.Patch.{NodeRoom}
 use Rattle.fal_node.specs.Ready.{CanHaveBatch, HasRoomForBatch}
 use Rattle.fal_node.specs.Gather.{with_fetches, with_waiting}
 use Rattle.fal_node.specs.Exec.{as_executed}
-use Rattle.fal_node.specs.Sound.{is_row_op, are_row_waiters, are_row_calls, are_row_batches, are_holders_below, AreItemsNumbered, AreBatches}
+use Rattle.fal_node.specs.Sound.{are_row_waiters, are_row_batches, are_holders_below, AreItemsNumbered, AreBatches}
+use Rattle.fal_run.specs.Calls.{is_row_op, are_row_calls}
 use Rattle.fal_wait.proofs.Ascending.{both, first_of_both, second_of_both, all_push, all_map, all_without, below_more, below_next, ascending_map, ascending_without, ascending_push}
 
 pub all_filter : {X : Type 0} (p test : X → Bool) (xs : List X) → list_all p xs ≡ true → list_all p (filter test xs) ≡ true

@@ -20,7 +20,8 @@ use Rattle.fal_wire.specs.declared.message.Message.TheVariants as message
 use Rattle.fal_wire.specs.Messages.{reading}
 use Rattle.fal_wire.specs.declared.letter.Letter.{Letter}
 use Rattle.fal_node.specs.State.{NodeState, with_item}
-use Rattle.fal_node.specs.Letters.{Work, begun, reply_letter, is_asker}
+use Rattle.fal_node.specs.Letters.{Work, begun, is_asker}
+use Rattle.fal_run.specs.Letters.{reply_letter}
 
 -- the call is admitted
 unfoldable pub admitted : NodeState → CallRec → NodeState

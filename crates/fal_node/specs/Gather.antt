@@ -15,11 +15,12 @@ use Rattle.fal_batch.specs.declared.parts.Wanted.{Wanted}
 use Rattle.fal_batch.specs.Fate.{Setting}
 use Rattle.fal_batch.specs.Plan.{Planning, plan_of, is_idle}
 use Rattle.fal_batch.specs.Seen.{setting_of}
-use Rattle.fal_node.specs.declared.batch.BatchCall.{BatchCall}
+use Rattle.fal_run.specs.declared.call.BatchCall.{BatchCall}
 use Rattle.fal_wire.specs.declared.letter.Letter.{Letter}
 use Rattle.fal_node.specs.State.{NodeState, blocked_names}
 use Rattle.fal_wire.specs.Letters.{letter}
-use Rattle.fal_node.specs.Letters.{Work, pass_letter}
+use Rattle.fal_node.specs.Letters.{Work}
+use Rattle.fal_run.specs.Letters.{pass_letter}
 use Rattle.fal_node.specs.Deliver.{without_calls}
 
 -- what the node has at hand for its plan

@@ -1,17 +1,15 @@
 -- What a step changes in a node, which `apply` makes so.
-use Rattle.std.specs.Prelude.{ℕ, ◌+◌, Bool, true, false, List, [], ◌∷◌, count_by, Option, None, Some, if◌then◌else◌}
-use Rattle.fal_base.specs.declared.inode.Inode.{Inode}
-use Rattle.fal_base.specs.declared.key.Key.{Key}
-use Rattle.fal_base.specs.Tree.{Tree, same_key}
+use Rattle.std.specs.Prelude.{ℕ, ◌+◌, Bool, true, false, List, count_by}
 use Rattle.fal_exec.specs.declared.outcome.Change.{Change}
 use Rattle.fal_exec.specs.declared.outcome.Change.TheVariants as change
 use Rattle.fal_node.specs.declared.patch.Patch.{Patch}
 use Rattle.fal_node.specs.declared.patch.Patch.TheVariants as patch
-use Rattle.fal_node.specs.declared.patch.RowChange.{RowChange}
+use Rattle.fal_run.specs.declared.change.RowChange.{RowChange}
 use Rattle.fal_node.specs.State.{NodeState, with_item, without_item, released}
 use Rattle.fal_node.specs.Deliver.{admitted, learned, dismissed}
 use Rattle.fal_node.specs.Gather.{with_waiting, with_batch}
-use Rattle.fal_node.specs.Exec.{rows_after, with_executed}
+use Rattle.fal_node.specs.Exec.{with_executed}
+use Rattle.fal_run.specs.Rows.{rows_changed}
 
 -- for how many more of each there is room
 pub record NodeRoom : Type 0 where
@@ -26,11 +24,6 @@ pub record NodeRoom : Type 0 where
 pub record SeenNode : Type 0 where
   pub state : NodeState
   pub room : NodeRoom
-
--- the rows after changes, in their order
-abbrev pub rows_changed : Tree → List RowChange → Tree
-rows_changed rows [] = rows
-rows_changed rows (c ∷ cs) = rows_changed (rows_after rows c.key c.change) cs
 
 -- whether the change asks for room: another one leaves as many rows, or fewer
 abbrev pub is_put : Change → Bool
@@ -57,12 +50,3 @@ patched node (patch.Gather fetches tickets calls keys) = with_batch (with_waitin
 patched node (patch.Execute batch changes drawn) = with_rows (with_executed node batch) changes.items drawn
 patched node (patch.Release batch) = released node batch
 patched node (patch.Serve item) = without_item node item
-
-abbrev pub found_after_change : Option Inode → Change → Option Inode
-found_after_change found change.Keep = found
-found_after_change found (change.Put inode) = Some inode
-found_after_change found change.Remove = None
-
--- what is found under a key after a change, where this was found before
-abbrev pub found_after : Key → Option Inode → RowChange → Option Inode
-found_after key found c = if same_key key c.key then found_after_change found c.change else found

@@ -5,7 +5,7 @@ use Rattle.fal_wait.specs.Lists.{IsPartOf}
 use Rattle.fal_wait.specs.Waiting.{WaitList, free_tickets, after_open, is_new}
 use Rattle.fal_locks.specs.Locks.{first_shut}
 use Rattle.fal_batch.specs.declared.parts.Wanted.{Wanted}
-use Rattle.fal_node.specs.declared.batch.BatchCall.{BatchCall}
+use Rattle.fal_run.specs.declared.call.BatchCall.{BatchCall}
 use Rattle.fal_node.specs.declared.event.NodeEvent.{NodeEvent}
 use Rattle.fal_node.specs.declared.patch.Patch.{Patch}
 use Rattle.fal_node.specs.declared.patch.Patch.TheVariants as patch
@@ -16,7 +16,7 @@ use Rattle.fal_wire.specs.Letters.{output_of}
 use Rattle.fal_node.specs.Letters.{Work}
 use Rattle.fal_node.specs.Step.{node_step}
 use Rattle.fal_node.specs.Patch.{NodeRoom, SeenNode, patched, puts_in}
-use Rattle.fal_node.specs.Sound.{is_row_op, are_row_calls}
+use Rattle.fal_run.specs.Calls.{is_row_op, are_row_calls}
 
 -- each fetch's waiters are free when it is opened
 abbrev pub CanOpen : WaitList → List Wanted → Type 0

@@ -1,25 +1,18 @@
 -- What holds of each node.
-use Rattle.std.specs.Prelude.{ℕ, Bool, List, IsTrue, is_some, nat_lt}
+use Rattle.std.specs.Prelude.{ℕ, Bool, List, IsTrue, nat_lt}
 use Rattle.std.specs.List.{list_all}
-use Rattle.fal_base.specs.declared.op.Op.{Op}
-use Rattle.fal_exec.specs.RowCall.{row_names}
 use Rattle.fal_locks.specs.Locks.{LockTable}
 use Rattle.fal_wait.specs.declared.waiting_call.WaitingCall.{WaitingCall}
 use Rattle.fal_wait.specs.Lists.{are_ascending}
 use Rattle.fal_node.specs.declared.batch.Batch.{Batch}
-use Rattle.fal_node.specs.declared.batch.BatchCall.{BatchCall}
+use Rattle.fal_run.specs.Calls.{is_row_op, are_row_calls}
 use Rattle.fal_node.specs.declared.item.Item.{Item}
 
--- whether one row decides the call
-abbrev pub is_row_op : Op → Bool
-is_row_op op = is_some (row_names op)
-
+-- whether one row decides each call that waits
 abbrev pub are_row_waiters : List WaitingCall → Bool
 are_row_waiters calls = list_all (λ w. is_row_op w.call.op) calls
 
-abbrev pub are_row_calls : List BatchCall → Bool
-are_row_calls calls = list_all (λ planned. is_row_op planned.call.op) calls
-
+-- whether one row decides each call of the batches
 abbrev pub are_row_batches : List Batch → Bool
 are_row_batches batches = list_all (λ batch. are_row_calls batch.calls) batches
 

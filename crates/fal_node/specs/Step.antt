@@ -1,17 +1,17 @@
 -- The steps of a node.
-use Rattle.std.specs.Prelude.{ℕ, ◌+◌, ◌*◌, ◌<◌, ◌≤◌, ◌^◌, Bool, true, false, Option, None, Some, ◌==◌, nat_lt, IsTrue}
+use Rattle.std.specs.Prelude.{ℕ, ◌+◌, ◌*◌, ◌<◌, ◌≤◌, ◌^◌, Bool, true, false, Option, None, Some, ◌==◌, IsTrue}
 use Rattle.std.specs.List.{All, list_any}
 use Rattle.std.specs.Option.{ForSome}
 use Rattle.fal_base.specs.declared.event.Actor.{Actor}
 use Rattle.fal_base.specs.declared.event.Actor.TheVariants.{Client, Node, Coord}
-use Rattle.fal_base.specs.declared.event.Note.{Note}
-use Rattle.fal_base.specs.declared.event.Note.TheVariants as note
 use Rattle.fal_wire.specs.Messages.{Fits}
 use Rattle.fal_node.specs.declared.batch.Batch.{Batch}
 use Rattle.fal_node.specs.declared.event.NodeEvent.{NodeEvent}
 use Rattle.fal_node.specs.declared.event.NodeEvent.TheVariants.{Deliver, Gather, Exec, Release, Serve}
 use Rattle.fal_node.specs.State.{NodeState, batch_of, item_of, released}
-use Rattle.fal_node.specs.Letters.{Work, begun, commits_in}
+use Rattle.fal_node.specs.Letters.{Work, begun}
+use Rattle.fal_run.specs.Letters.{commits_in}
+use Rattle.fal_run.specs.Work.{is_numbered}
 use Rattle.fal_node.specs.Deliver.{delivered}
 use Rattle.fal_node.specs.Gather.{plan_at, gather}
 use Rattle.fal_node.specs.Exec.{execute}
@@ -38,11 +38,6 @@ node_step node Gather = gather node (plan_at node)
 node_step node (Exec number) = execute node number (batch_of node number)
 node_step node (Release number) = release node number (batch_of node number)
 node_step node (Serve number) = serve node (item_of node number)
-
--- whether it notes a commit that draws an inode number
-abbrev pub is_numbered : Note → Bool
-is_numbered (note.Commit lane seq ino) = nat_lt 0 ino
-is_numbered other = false
 
 -- the last inode number that a node has drawn
 abbrev pub last_number : NodeState → ℕ

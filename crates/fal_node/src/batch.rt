@@ -1,13 +1,5 @@
-use fal_base::{CallRec, Dentry, Items, Key};
-
-/// A call of a batch: whether its walk was refused, and else the directory of its last name, None for the root path alone, and its last key.
-#[derive(Debug, Drop)]
-pub struct BatchCall {
-    pub call: CallRec,
-    pub denied: bool,
-    pub parent: Option<Dentry>,
-    pub last: Key,
-}
+use fal_base::Items;
+use fal_run::BatchCall;
 
 /// Calls that are executed together. It keeps its keys, under its number, until it is released.
 #[derive(Debug, Drop)]

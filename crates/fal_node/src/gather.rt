@@ -12,14 +12,13 @@ ghost use Rattle.fal_node.specs.declared.event.NodeEvent.TheVariants as NodeEven
 ghost use Rattle.fal_node.specs.Step.{node_step, IsWithin, StaysWithin};
 ghost use Rattle.fal_node.specs.Ready.{CanGather, Does, DoesOf};
 
-use crate::batch::BatchCall;
 use crate::blocking::blocked_names;
 use crate::draft::Draft;
-use crate::exec::passed_on;
 use crate::node::Node;
 use crate::patch::Patch;
 use fal_base::{Actor, Barred, CallRec, Duplicate, Items, Key, OutOfMemory, Point};
 use fal_batch::{Away, Plan, Planned, Sending, is_plan_idle, plan};
+use fal_run::{BatchCall, passed_on};
 use fal_wait::Waiting;
 use fal_wire::{Letter, Message};
 use std::alloc::Global;

@@ -21,12 +21,11 @@ mod room;
 mod serve;
 mod settle;
 
-pub use batch::{Batch, BatchCall};
+pub use batch::Batch;
 pub use blocking::Blocking;
 pub use draft::Draft;
 pub use event::{NodeEvent, OwnEvent};
-pub use exec::Run;
 pub use item::Item;
 pub use law::records_are_read;
 pub use node::Node;
-pub use patch::{Patch, Prepared, RowChange};
+pub use patch::{Patch, Prepared};

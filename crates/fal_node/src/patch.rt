@@ -1,19 +1,11 @@
 ghost use Rattle.std.specs.Prelude.{◌≡◌, []};
 
-use crate::batch::BatchCall;
 use fal_base::{CallRec, Dentry, Items, Key, NoteList, OutputList, Outputs};
 use fal_batch::Wanted;
-use fal_exec::Change;
+use fal_run::{BatchCall, RowChange};
 use fal_wire::Message;
 use std::alloc::Global;
 use std::mem;
-
-/// What becomes of the row under a key.
-#[derive(Debug, Drop)]
-pub struct RowChange {
-    pub key: Key,
-    pub change: Change,
-}
 
 /// What a step changes in a node.
 #[derive(Debug, Drop)]

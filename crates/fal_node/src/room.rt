@@ -5,9 +5,10 @@ ghost use Rattle.fal_node.specs.Patch.{is_put as is_put_change, puts_in as puts_
 ghost use Rattle.fal_node.specs.Ready.{HasRoom};
 
 use crate::node::Node;
-use crate::patch::{Patch, RowChange};
+use crate::patch::Patch;
 use fal_base::OutOfMemory;
 use fal_exec::Change;
+use fal_run::RowChange;
 
 // Whether the change asks for room.
 fn is_put(change: &RowChange) -> bool

@@ -15,7 +15,8 @@ use Rattle.fal_node.specs.declared.event.NodeEvent.TheVariants.{Deliver, Gather,
 use Rattle.fal_wire.specs.declared.letter.Letter.{Letter}
 use Rattle.fal_node.specs.declared.patch.Prepared.{Prepared}
 use Rattle.fal_node.specs.State.{NodeState, opening_node, with_item}
-use Rattle.fal_node.specs.Letters.{Work, begun, is_asker, commits_in}
+use Rattle.fal_node.specs.Letters.{Work, begun, is_asker}
+use Rattle.fal_run.specs.Letters.{commits_in}
 use Rattle.fal_node.specs.Deliver.{admitted, take_call, settle_pending, take_message, take_read, delivered}
 use Rattle.fal_node.specs.Patch.{SeenNode}
 use Rattle.fal_node.specs.Ready.{after, IsStepOf, IsStepFor}

@@ -3,7 +3,7 @@ use Rattle.std.proofs.Common.{ℕ, Option, Some, None, ◌≡◌, refl, sym, sub
 use Rattle.fal_base.specs.declared.reply.Reply.{Reply}
 use Rattle.fal_story.proofs.Lists.Grown.{put_all}
 use Rattle.fal_story.specs.World.{put}
-use Rattle.fal_node.specs.declared.batch.BatchCall.{BatchCall}
+use Rattle.fal_run.specs.declared.call.BatchCall.{BatchCall}
 
 -- what a lane's call is told at its end: an answer, with its point
 pub data Answer : Type 0 where

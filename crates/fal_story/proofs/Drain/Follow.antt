@@ -11,7 +11,7 @@ use Rattle.fal_client.specs.declared.current.Current.{Current}
 use Rattle.fal_client.specs.State.{ClientState}
 use Rattle.fal_client.specs.Step.{id_at}
 use Rattle.fal_node.specs.declared.batch.Batch.{Batch}
-use Rattle.fal_node.specs.declared.batch.BatchCall.{BatchCall}
+use Rattle.fal_run.specs.declared.call.BatchCall.{BatchCall}
 use Rattle.fal_node.specs.State.{NodeState}
 use Rattle.fal_base.specs.declared.mark.Mark.{Mark}
 use Rattle.fal_wait.specs.declared.waiting_call.WaitingCall.{WaitingCall}

@@ -16,7 +16,8 @@ use Rattle.fal_base.specs.declared.reply.Errno.TheVariants.{Enoent, Enotdir}
 use Rattle.fal_base.specs.declared.reply.Reply.TheVariants.{Fail}
 use Rattle.fal_wire.specs.declared.letter.Letter.{Letter}
 use Rattle.fal_node.specs.Deliver.{learned, dismissed, refusals, refuse, settle_pending}
-use Rattle.fal_node.specs.Letters.{Work, begun, reply_letter}
+use Rattle.fal_node.specs.Letters.{Work, begun}
+use Rattle.fal_run.specs.Letters.{reply_letter}
 use Rattle.fal_node.specs.State.{NodeState}
 use Rattle.fal_wait.specs.declared.pending_fetch.PendingFetch.{PendingFetch}
 use Rattle.fal_wait.specs.declared.waiting_call.WaitingCall.{WaitingCall}

@@ -12,10 +12,12 @@ use Rattle.fal_base.specs.declared.reply.Reply.{Reply}
 use Rattle.fal_exec.specs.declared.outcome.ExecOut.{ExecOut}
 use Rattle.fal_exec.specs.declared.outcome.ExecOut.TheVariants as out
 use Rattle.fal_node.specs.declared.batch.Batch.{Batch}
-use Rattle.fal_node.specs.declared.batch.BatchCall.{BatchCall}
+use Rattle.fal_run.specs.declared.call.BatchCall.{BatchCall}
 use Rattle.fal_wire.specs.declared.letter.Letter.{Letter}
-use Rattle.fal_node.specs.Exec.{executed, exec_all, exec_one, exec_as, with_executed, as_executed, answer_letter, call_outcome}
-use Rattle.fal_node.specs.Letters.{Work, begun, reply_letter, commits_in}
+use Rattle.fal_node.specs.Exec.{executed, exec_all, exec_one, exec_as, with_executed, as_executed}
+use Rattle.fal_run.specs.Calls.{answer_letter, call_outcome}
+use Rattle.fal_node.specs.Letters.{Work, begun}
+use Rattle.fal_run.specs.Letters.{reply_letter, commits_in}
 use Rattle.fal_node.specs.State.{NodeState, batch_of}
 use Rattle.fal_base.specs.Marks.{mark_of, last_mark, is_newer}
 use Rattle.fal_wait.specs.Waiting.{WaitList}

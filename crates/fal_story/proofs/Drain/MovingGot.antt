@@ -16,7 +16,8 @@ use Rattle.fal_base.specs.declared.reply.Errno.TheVariants.{Enoent, Enotdir}
 use Rattle.fal_base.specs.declared.reply.Reply.TheVariants.{Fail}
 use Rattle.fal_wire.specs.declared.letter.Letter.{Letter}
 use Rattle.fal_node.specs.Deliver.{learned, dismissed, refusals, refuse, settle, settle_pending, take_message, take_read, delivered}
-use Rattle.fal_node.specs.Letters.{begun, reply_letter, is_asker}
+use Rattle.fal_node.specs.Letters.{begun, is_asker}
+use Rattle.fal_run.specs.Letters.{reply_letter}
 use Rattle.fal_node.specs.State.{with_item}
 use Rattle.fal_place.specs.Placement.{Placement}
 use Rattle.fal_node.specs.Step.{is_to_node}

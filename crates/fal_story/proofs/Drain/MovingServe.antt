@@ -26,11 +26,13 @@ use Rattle.fal_exec.specs.declared.outcome.ExecOut.{ExecOut}
 use Rattle.fal_exec.specs.declared.outcome.ExecOut.TheVariants as out
 use Rattle.fal_exec.specs.Outcome.{outcome_of, unless_refused, where_found, without_change, make_outcome, access_outcome, truncate_outcome, unlink_outcome}
 use Rattle.fal_node.specs.declared.batch.Batch.{Batch}
-use Rattle.fal_node.specs.declared.batch.BatchCall.{BatchCall}
+use Rattle.fal_run.specs.declared.call.BatchCall.{BatchCall}
 use Rattle.fal_node.specs.declared.item.Item.{Item}
 use Rattle.fal_wire.specs.declared.letter.Letter.{Letter}
-use Rattle.fal_node.specs.Exec.{executed, exec_all, exec_one, exec_as, with_executed, answer_letter, call_outcome, number_after}
-use Rattle.fal_node.specs.Letters.{Work, begun, asker_of, commits_in}
+use Rattle.fal_node.specs.Exec.{executed, exec_all, exec_one, exec_as, with_executed}
+use Rattle.fal_run.specs.Calls.{answer_letter, call_outcome, number_after}
+use Rattle.fal_node.specs.Letters.{Work, begun, asker_of}
+use Rattle.fal_run.specs.Letters.{commits_in}
 use Rattle.fal_node.specs.Serve.{can_serve, served, fetch_letter, owns}
 use Rattle.fal_story.proofs.Events.Enabled.{served_letters, only_sends, served_is}
 use Rattle.fal_node.specs.State.{NodeState, batch_of, item_of, released, without_item}

@@ -35,7 +35,7 @@ use Rattle.fal_client.specs.Paths.{addressee, node_for}
 use Rattle.fal_client.specs.State.{ClientState, Work as ClientWork, unchanged}
 use Rattle.fal_client.specs.Step.{client_step, sent_next, started, begun, skipped, taken, first_try, letter_to, id_at, is_to_lane as is_for, got, read_step, heard, heard_by, is_about, news_told, replied, answered}
 use Rattle.fal_place.specs.Placement.{Placement, route}
-use Rattle.fal_node.specs.declared.batch.BatchCall.{BatchCall}
+use Rattle.fal_run.specs.declared.call.BatchCall.{BatchCall}
 use Rattle.fal_node.specs.declared.item.Item.{Item}
 use Rattle.fal_wait.specs.declared.waiting_call.WaitingCall.{WaitingCall}
 use Rattle.fal_wire.specs.declared.fault.WireFault.{WireFault}

@@ -4,7 +4,7 @@ use Rattle.std.specs.List.{All, find}
 use Rattle.std.proofs.lemmas.Option.{same_Some}
 use Rattle.fal_base.specs.declared.call.Config.{Config}
 use Rattle.fal_node.specs.declared.batch.Batch.{Batch}
-use Rattle.fal_node.specs.declared.batch.BatchCall.{BatchCall}
+use Rattle.fal_run.specs.declared.call.BatchCall.{BatchCall}
 use Rattle.fal_node.specs.declared.event.NodeEvent.TheVariants as node
 use Rattle.fal_node.specs.Exec.{as_executed, with_executed, exec_one, exec_all, executed, execute}
 use Rattle.fal_node.specs.Letters.{Work, begun}

@@ -17,9 +17,12 @@ use Rattle.fal_exec.specs.declared.outcome.Change.TheVariants as change
 use Rattle.fal_exec.specs.declared.outcome.ExecOut.TheVariants as out
 use Rattle.fal_exec.specs.Outcome.{without_change, outcome_of}
 use Rattle.fal_node.specs.declared.batch.Batch.{Batch}
-use Rattle.fal_node.specs.declared.batch.BatchCall.{BatchCall}
-use Rattle.fal_node.specs.Exec.{number_after, call_outcome, rows_after, drawn_by, commit_notes, exec_as, exec_one}
-use Rattle.fal_node.specs.Letters.{Work, commits_in, reply_letter}
+use Rattle.fal_run.specs.declared.call.BatchCall.{BatchCall}
+use Rattle.fal_node.specs.Exec.{exec_as, exec_one}
+use Rattle.fal_run.specs.Calls.{number_after, call_outcome, drawn_by, commit_notes}
+use Rattle.fal_run.specs.Rows.{rows_after}
+use Rattle.fal_node.specs.Letters.{Work}
+use Rattle.fal_run.specs.Letters.{commits_in, reply_letter}
 use Rattle.fal_wait.specs.Waiting.{WaitList}
 use Rattle.fal_story.proofs.Events.HeldCalls.{MovesAt, put_moves, others_held, heard_moves, held_done}
 use Rattle.fal_story.proofs.Events.InStep.{InStep, view_in}

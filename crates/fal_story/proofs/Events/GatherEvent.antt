@@ -11,7 +11,7 @@ use Rattle.fal_base.specs.declared.key.Key.{Key}
 use Rattle.fal_batch.specs.declared.parts.Wanted.{Wanted}
 use Rattle.fal_batch.specs.Plan.{is_idle}
 use Rattle.fal_node.specs.declared.batch.Batch.{Batch}
-use Rattle.fal_node.specs.declared.batch.BatchCall.{BatchCall}
+use Rattle.fal_run.specs.declared.call.BatchCall.{BatchCall}
 use Rattle.fal_node.specs.declared.event.NodeEvent.TheVariants.{Gather}
 use Rattle.fal_wire.specs.declared.letter.Letter.{Letter}
 use Rattle.fal_node.specs.Deliver.{without_calls}

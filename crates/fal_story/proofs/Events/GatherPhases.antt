@@ -7,7 +7,7 @@ use Rattle.fal_base.specs.declared.call.Config.{Config}
 use Rattle.fal_base.specs.Tree.{Tree}
 use Rattle.fal_batch.specs.Fate.{Setting, Joins, fate}
 use Rattle.fal_batch.specs.Fate.{Waits as WaitsFor}
-use Rattle.fal_node.specs.declared.batch.BatchCall.{BatchCall}
+use Rattle.fal_run.specs.declared.call.BatchCall.{BatchCall}
 use Rattle.fal_node.specs.Gather.{setting_at}
 use Rattle.fal_wait.specs.declared.pending_fetch.PendingFetch.{PendingFetch}
 use Rattle.fal_wait.specs.declared.waiting_call.WaitingCall.{WaitingCall}

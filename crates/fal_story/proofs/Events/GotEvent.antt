@@ -28,7 +28,8 @@ use Rattle.fal_exec.proofs.Stopped.{stopped_answer, stopped_makes}
 use Rattle.fal_exec.specs.RowCall.{row_names}
 use Rattle.fal_node.specs.Deliver.{learned, dismissed, refusals, refuse, settle, settle_pending}
 use Rattle.fal_wire.specs.declared.letter.Letter.{Letter}
-use Rattle.fal_node.specs.Letters.{begun, reply_letter}
+use Rattle.fal_node.specs.Letters.{begun}
+use Rattle.fal_run.specs.Letters.{reply_letter}
 use Rattle.fal_wait.specs.declared.pending_fetch.PendingFetch.{PendingFetch}
 use Rattle.fal_wait.specs.declared.waiting_call.WaitingCall.{WaitingCall}
 use Rattle.fal_wait.specs.Waiting.{fetch_of, after_settle, waits_on}

@@ -12,7 +12,7 @@ use Rattle.fal_client.specs.State.{ClientState}
 use Rattle.fal_base.specs.declared.key.Key.{Key}
 use Rattle.fal_locks.specs.declared.holder.Shut.{Shut}
 use Rattle.fal_node.specs.declared.batch.Batch.{Batch}
-use Rattle.fal_node.specs.declared.batch.BatchCall.{BatchCall}
+use Rattle.fal_run.specs.declared.call.BatchCall.{BatchCall}
 use Rattle.fal_node.specs.declared.item.Item.{Item}
 use Rattle.fal_node.specs.State.{NodeState}
 use Rattle.fal_wait.specs.declared.pending_fetch.PendingFetch.{PendingFetch}

@@ -16,7 +16,7 @@ use Rattle.fal_base.specs.Walk.{Ready, walk, dentry_of}
 use Rattle.fal_base.specs.Updates.{keys_of}
 use Rattle.fal_base.proofs.Entries.{SomeUnder}
 use Rattle.fal_dentry.specs.Walk.{is_among}
-use Rattle.fal_node.specs.Exec.{is_making}
+use Rattle.fal_run.specs.Calls.{is_making}
 use Rattle.fal_place.specs.Placement.{Placement, owner}
 use Rattle.fal_wire.specs.declared.message.Message.{Message}
 use Rattle.fal_wire.specs.declared.message.Message.TheVariants as message

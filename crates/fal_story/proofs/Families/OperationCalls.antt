@@ -7,7 +7,7 @@ use Rattle.fal_base.specs.declared.event.Actor.{Actor}
 use Rattle.fal_base.specs.declared.row.Update.{Update}
 use Rattle.fal_base.specs.Commits.{Commit}
 use Rattle.fal_base.specs.Tree.{Tree}
-use Rattle.fal_node.specs.Exec.{is_making}
+use Rattle.fal_run.specs.Calls.{is_making}
 use Rattle.fal_place.specs.Placement.{Placement}
 use Rattle.fal_wire.specs.declared.message.Message.{Message}
 use Rattle.fal_locks.specs.declared.holder.Shut.{Shut}

@@ -13,7 +13,7 @@ use Rattle.fal_base.specs.Tree.{Tree}
 use Rattle.fal_base.specs.Walk.{Stop, Ready, walk, dentry_of}
 use Rattle.fal_dentry.specs.TreeWalk.{way}
 use Rattle.fal_exec.specs.RowCall.{row_names}
-use Rattle.fal_node.specs.declared.batch.BatchCall.{BatchCall}
+use Rattle.fal_run.specs.declared.call.BatchCall.{BatchCall}
 use Rattle.fal_place.specs.Placement.{Placement, owner}
 use Rattle.fal_story.proofs.Families.Asking.{IsCrossed, weaker}
 use Rattle.fal_story.proofs.Lists.Grown.{from_put, put_both}

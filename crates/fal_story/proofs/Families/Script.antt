@@ -20,7 +20,7 @@ use Rattle.fal_story.proofs.Trees.Commits.{longer}
 use Rattle.fal_story.proofs.Trees.Once.{Once, once_answered, once_committed, once_sent}
 use Rattle.fal_story.proofs.Trees.Transcript.{answer_more, at_end, at_front, calls_more, commits_append, count_snoc, joined_more, IsJoined, Calls}
 use Rattle.fal_story.proofs.View.{plain}
-use Rattle.fal_node.specs.Exec.{number_after}
+use Rattle.fal_run.specs.Calls.{number_after}
 use Rattle.fal_story.specs.World.{put}
 
 -- a number that was drawn by a node, or none

@@ -12,7 +12,7 @@ use Rattle.fal_base.specs.Commits.{Commit}
 use Rattle.fal_base.proofs.Maps.{same_key_is}
 use Rattle.fal_base.specs.Tree.{Tree, row_at, same_key}
 use Rattle.fal_dentry.specs.Walk.{is_among}
-use Rattle.fal_node.specs.Exec.{is_making}
+use Rattle.fal_run.specs.Calls.{is_making}
 use Rattle.fal_place.specs.Placement.{Placement, owner}
 use Rattle.fal_wire.specs.declared.message.Message.{Message}
 use Rattle.fal_wire.specs.declared.message.Message.TheVariants as message

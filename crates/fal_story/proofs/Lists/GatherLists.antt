@@ -16,7 +16,7 @@ use Rattle.fal_batch.proofs.KeyLists.{same_turned}
 use Rattle.fal_batch.proofs.Shared.{shared_of}
 use Rattle.fal_batch.proofs.Truth.{both, both_first, both_second, neither_first, neither_second, not_true}
 use Rattle.fal_dentry.specs.Walk.{is_among}
-use Rattle.fal_node.specs.declared.batch.BatchCall.{BatchCall}
+use Rattle.fal_run.specs.declared.call.BatchCall.{BatchCall}
 use Rattle.fal_node.specs.Deliver.{without_calls}
 use Rattle.fal_node.specs.Gather.{setting_at, plan_at, with_fetches, leaving, batch_call, batch_calls}
 use Rattle.fal_node.specs.State.{NodeState}

@@ -11,7 +11,7 @@ use Rattle.fal_base.specs.declared.reply.Errno.{Errno}
 use Rattle.fal_base.specs.declared.reply.Reply.TheVariants.{Fail}
 use Rattle.fal_batch.proofs.Truth.{both, both_first, both_second}
 use Rattle.fal_node.specs.Deliver.{without_calls, refusal, refusals}
-use Rattle.fal_node.specs.Letters.{reply_letter}
+use Rattle.fal_run.specs.Letters.{reply_letter}
 use Rattle.fal_wait.specs.declared.pending_fetch.PendingFetch.{PendingFetch}
 use Rattle.fal_wait.specs.declared.waiting_call.WaitingCall.{WaitingCall}
 use Rattle.fal_wait.specs.Lists.{without_first, has_number}

@@ -11,10 +11,13 @@ use Rattle.fal_exec.specs.declared.outcome.Change.TheVariants.{Keep, Put, Remove
 use Rattle.fal_exec.specs.declared.outcome.ExecOut.{ExecOut}
 use Rattle.fal_exec.specs.declared.outcome.ExecOut.TheVariants.{Finish, Opened, PassOn}
 use Rattle.fal_node.specs.declared.batch.Batch.{Batch}
-use Rattle.fal_node.specs.declared.batch.BatchCall.{BatchCall}
+use Rattle.fal_run.specs.declared.call.BatchCall.{BatchCall}
 use Rattle.fal_node.specs.declared.event.NodeEvent.TheVariants.{Exec}
-use Rattle.fal_node.specs.Exec.{as_executed, with_executed, number_after, is_making, call_outcome, rows_after, drawn_by, commit_notes, exec_as, exec_one, exec_all, executed, execute}
-use Rattle.fal_node.specs.Letters.{Work, begun, commits_in}
+use Rattle.fal_node.specs.Exec.{as_executed, with_executed, exec_as, exec_one, exec_all, executed, execute}
+use Rattle.fal_run.specs.Calls.{number_after, is_making, call_outcome, drawn_by, commit_notes}
+use Rattle.fal_run.specs.Rows.{rows_after}
+use Rattle.fal_node.specs.Letters.{Work, begun}
+use Rattle.fal_run.specs.Letters.{commits_in}
 use Rattle.fal_node.specs.State.{NodeState, batch_of}
 use Rattle.fal_node.specs.Step.{node_step}
 use Rattle.fal_wire.specs.Ops.{call_field}

@@ -14,7 +14,7 @@ use Rattle.fal_batch.specs.declared.parts.Sending.TheVariants as sending
 use Rattle.fal_batch.specs.declared.parts.Wanted.{Wanted}
 use Rattle.fal_batch.specs.Fate.{Setting, Fate, Skips, Leaves, Waits, Joins, fate}
 use Rattle.fal_batch.specs.Plan.{Planning, no_plan, with_wait, with_planned, with_waiter, is_wanted, after_fate, plan_one, plan_calls, plan_of, is_idle, free_call, free_calls}
-use Rattle.fal_node.specs.declared.batch.BatchCall.{BatchCall}
+use Rattle.fal_run.specs.declared.call.BatchCall.{BatchCall}
 use Rattle.fal_node.specs.declared.event.NodeEvent.TheVariants.{Gather}
 use Rattle.fal_wire.specs.declared.letter.Letter.{Letter}
 use Rattle.fal_node.specs.Gather.{setting_at, plan_at, gather_letters, leaving, batch_call, batch_calls, with_fetches, with_waiting, batched, with_batch, gathered}

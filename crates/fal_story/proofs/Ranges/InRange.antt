@@ -13,7 +13,7 @@ use Rattle.fal_client.specs.Paths.{addressee}
 use Rattle.fal_client.specs.State.{Work as ClientWork}
 use Rattle.fal_client.specs.Step.{IsInRange, client_step}
 use Rattle.fal_node.specs.declared.batch.Batch.{Batch}
-use Rattle.fal_node.specs.declared.batch.BatchCall.{BatchCall}
+use Rattle.fal_run.specs.declared.call.BatchCall.{BatchCall}
 use Rattle.fal_node.specs.declared.event.NodeEvent.{NodeEvent}
 use Rattle.fal_node.specs.declared.event.NodeEvent.TheVariants as node
 use Rattle.fal_wire.specs.declared.letter.Letter.{Letter}

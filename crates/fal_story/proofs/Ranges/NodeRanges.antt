@@ -11,7 +11,8 @@ use Rattle.fal_node.specs.declared.batch.Batch.{Batch}
 use Rattle.fal_node.specs.declared.event.NodeEvent.TheVariants.{Release, Serve}
 use Rattle.fal_node.specs.declared.item.Item.{Item}
 use Rattle.fal_wire.specs.declared.letter.Letter.{Letter}
-use Rattle.fal_node.specs.Letters.{Work, begun, asker_of, commits_in}
+use Rattle.fal_node.specs.Letters.{Work, begun, asker_of}
+use Rattle.fal_run.specs.Letters.{commits_in}
 use Rattle.fal_node.specs.Serve.{owns, can_serve, fetch_letter, served, serve}
 use Rattle.fal_story.proofs.Events.Enabled.{served_letters, only_sends, served_is}
 use Rattle.fal_node.specs.State.{NodeState, batch_of, item_of, without_item, released}

@@ -23,8 +23,9 @@ use Rattle.fal_exec.specs.declared.outcome.Change.TheVariants.{Keep, Put, Remove
 use Rattle.fal_exec.specs.declared.outcome.ExecOut.{ExecOut}
 use Rattle.fal_exec.specs.declared.outcome.ExecOut.TheVariants.{Finish, Opened, PassOn}
 use Rattle.fal_exec.specs.Outcome.{without_change, where_found, unless_refused, access_outcome, truncate_outcome, unlink_outcome, outcome_of}
-use Rattle.fal_node.specs.declared.batch.BatchCall.{BatchCall}
-use Rattle.fal_node.specs.Exec.{number_after, call_outcome, rows_after}
+use Rattle.fal_run.specs.declared.call.BatchCall.{BatchCall}
+use Rattle.fal_run.specs.Calls.{number_after, call_outcome}
+use Rattle.fal_run.specs.Rows.{rows_after}
 use Rattle.fal_wire.specs.Numbers.{ino_field, mode_field, size_field, cred_field}
 use Rattle.fal_wire.specs.Ops.{path_and_mode, path_and_size, op_field, call_field}
 use Rattle.fal_wire.specs.Rows.{kind_field, inode_field, reply_field}

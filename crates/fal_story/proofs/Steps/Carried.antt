@@ -13,7 +13,7 @@ use Rattle.fal_base.specs.Maps.{value_at}
 use Rattle.fal_base.proofs.Order.{same_of_tied}
 use Rattle.fal_base.specs.Tree.{key_cmp, row_at}
 use Rattle.fal_dentry.specs.Walk.{Dentries, is_among, without_keys}
-use Rattle.fal_node.specs.Exec.{is_making}
+use Rattle.fal_run.specs.Calls.{is_making}
 use Rattle.fal_wire.specs.declared.message.Message.{Message}
 use Rattle.fal_wire.specs.declared.message.Message.TheVariants as message
 use Rattle.fal_story.proofs.Families.Asking.{asking_put}

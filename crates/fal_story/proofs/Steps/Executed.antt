@@ -31,8 +31,9 @@ use Rattle.fal_dentry.proofs.UnderWay.{no_parent, under_number}
 use Rattle.fal_dentry.specs.TreeWalk.{way}
 use Rattle.fal_dentry.specs.Walk.{is_among}
 use Rattle.fal_place.specs.Placement.{owner}
-use Rattle.fal_node.specs.declared.batch.BatchCall.{BatchCall}
-use Rattle.fal_node.specs.Exec.{is_making, number_after, noted_number, rows_after, drawn_by, draws}
+use Rattle.fal_run.specs.declared.call.BatchCall.{BatchCall}
+use Rattle.fal_run.specs.Calls.{is_making, number_after, noted_number, drawn_by, draws}
+use Rattle.fal_run.specs.Rows.{rows_after}
 use Rattle.fal_story.proofs.Families.Asking.{IsCrossed, asking_committed}
 use Rattle.fal_story.proofs.Families.Clear.{IsShut, clear_put}
 use Rattle.fal_story.proofs.Families.Ground.{Ground, ground_executed}

@@ -19,7 +19,7 @@ use Rattle.fal_exec.specs.declared.outcome.ExecOut.{ExecOut}
 use Rattle.fal_exec.specs.declared.outcome.ExecOut.TheVariants as out
 use Rattle.fal_exec.specs.Executed.{is_directory}
 use Rattle.fal_exec.specs.Outcome.{outcome_of, without_change, where_found, unless_refused, make_outcome, access_outcome, truncate_outcome, unlink_outcome}
-use Rattle.fal_node.specs.Exec.{is_making}
+use Rattle.fal_run.specs.Calls.{is_making}
 use Rattle.fal_story.specs.Clusters.{is_served}
 
 -- ---- it is done

@@ -12,7 +12,8 @@ use Rattle.fal_base.proofs.Maps.{put_cases, removed_cases}
 use Rattle.fal_exec.specs.declared.outcome.Change.{Change}
 use Rattle.fal_exec.specs.declared.outcome.Change.TheVariants as row
 use Rattle.fal_exec.specs.Executed.{is_directory}
-use Rattle.fal_node.specs.Exec.{is_making, noted_number, rows_after}
+use Rattle.fal_run.specs.Calls.{is_making, noted_number}
+use Rattle.fal_run.specs.Rows.{rows_after}
 
 -- what stands under the key of the row
 abbrev pub row_left : Change → Option Inode

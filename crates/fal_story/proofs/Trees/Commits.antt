@@ -9,7 +9,7 @@ use Rattle.fal_base.specs.declared.op.Op.TheVariants as op
 use Rattle.fal_base.specs.Change.{makes, change}
 use Rattle.fal_base.specs.Commits.{Commit, tree_after, tree_at, HasNumber, AreLegalFrom, AreLegal}
 use Rattle.fal_base.specs.Tree.{Tree, tree0}
-use Rattle.fal_node.specs.Exec.{is_making}
+use Rattle.fal_run.specs.Calls.{is_making}
 use Rattle.fal_story.proofs.Lists.Grown.{unequal}
 use Rattle.fal_story.proofs.Trees.Standing.{tree_now}
 

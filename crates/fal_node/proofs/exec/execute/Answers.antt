@@ -3,20 +3,20 @@ use Rattle.std.specs.List.{find}
 use Rattle.fal_node.specs.declared.batch.Batch.{Batch}
 use Rattle.fal_node.specs.Letters.{begun}
 use Rattle.fal_node.specs.Exec.{exec_all, with_executed, executed, execute}
-use Rattle.fal_node.specs.Sound.{are_row_calls}
+use Rattle.fal_run.specs.Calls.{are_row_calls}
 use Rattle.fal_node.specs.Step.{IsWithin}
 use Rattle.fal_node.proofs.Sound.{found_batch}
 use Rattle.fal_node.proofs.exec.execute.Goals as goal
 
-pub run_calls-requires-clause-row_calls : goal.run_calls-requires-clause-row_calls
-run_calls-requires-clause-row_calls c =
+pub run_batch-requires-clause-row_calls : goal.run_batch-requires-clause-row_calls
+run_batch-requires-clause-row_calls c =
     let batches = c.node.inside.batches.items in
     let found = ap (λ xs. find (λ (batch : Batch). batch.number == c.args.number) xs) (sym c.deref.ensures.value) ∙ sym c.in-Some.ensures in
     subst (λ xs. are_row_calls xs ≡ true) (sym c.as_slice.ensures) (found_batch batches c.args.number c.in-Some.batch.now found c.node.invariant.batches_made.row_calls)
 
-pub run_calls-requires-clause-within : goal.run_calls-requires-clause-within
+pub run_batch-requires-clause-within : goal.run_batch-requires-clause-within
 unfolding executed
-run_calls-requires-clause-within c =
+run_batch-requires-clause-within c =
     let n = c.args.node.now.state in
     let batch = c.in-Some.batch.now in
     let found = ap (λ xs. find (λ (batch : Batch). batch.number == c.args.number) xs) (sym c.deref.ensures.value) ∙ sym c.in-Some.ensures in

@@ -1,7 +1,7 @@
 use Rattle.std.proofs.Common.{sym, ap, ◌∙◌, subst}
 use Rattle.fal_node.specs.Gather.{setting_at, plan_at}
 use Rattle.fal_node.specs.Ready.{CanOpen}
-use Rattle.fal_node.specs.Sound.{are_row_calls}
+use Rattle.fal_run.specs.Calls.{are_row_calls}
 use Rattle.fal_node.proofs.Gathered.{row_batch_calls}
 use Rattle.fal_node.proofs.Opens.{can_open_plan}
 use Rattle.fal_node.proofs.gather.draft_of_plan.Goals as goal

@@ -15,8 +15,8 @@ use Rattle.fal_exec.specs.declared.outcome.ExecOut.{ExecOut}
 use Rattle.fal_exec.specs.declared.outcome.ExecOut.TheVariants.{Finish}
 use Rattle.fal_base.specs.Walk.{kept_grants}
 use Rattle.fal_exec.specs.Outcome.{without_change, outcome_of}
-use Rattle.fal_node.specs.declared.batch.BatchCall.{BatchCall}
-use Rattle.fal_node.specs.Exec.{number_after, call_outcome, change_of, draws, drawn_by, noted_number, is_making}
+use Rattle.fal_run.specs.declared.call.BatchCall.{BatchCall}
+use Rattle.fal_run.specs.Calls.{number_after, call_outcome, change_of, draws, drawn_by, noted_number, is_making}
 
 abbrev Draws : Op → ExecOut → Type 0
 Draws call out = 0 < drawn_by call (change_of out)

@@ -1,11 +1,11 @@
 use Rattle.std.proofs.Common.{◌≡◌, ◌<◌, ◌+◌, ◌++◌, ◌∷◌, [], length, take, sym, ap, ◌∙◌, arith}
 use Rattle.std.proofs.lemmas.List.{take_more}
 use Rattle.fal_base.specs.Tree.{row_at}
-use Rattle.fal_node.specs.declared.patch.RowChange.{RowChange}
-use Rattle.fal_node.specs.Patch.{rows_changed, found_after}
-use Rattle.fal_node.proofs.Found.{row_at-rows_after}
-use Rattle.fal_node.proofs.Pushed.{rows_changed-push}
-use Rattle.fal_node.proofs.exec.row_now.Goals as goal
+use Rattle.fal_run.specs.declared.change.RowChange.{RowChange}
+use Rattle.fal_run.specs.Rows.{rows_changed, found_after}
+use Rattle.fal_run.proofs.Found.{row_at-rows_after}
+use Rattle.fal_run.proofs.Changes.{rows_changed-push}
+use Rattle.fal_run.proofs.outcome.row_now.Goals as goal
 
 pub loop-change-preserved : goal.loop-change-preserved
 loop-change-preserved c =

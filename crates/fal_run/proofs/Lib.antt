@@ -1,0 +1,5 @@
+pub mod Changes
+mod Found
+mod Numbers
+mod Runs
+pub mod Within

@@ -1,0 +1,4 @@
+pub mod Letters
+pub mod Rows
+pub mod Calls
+pub mod Work
