@@ -1,6 +1,7 @@
 # Writes a script: CALLS calls of KIND for NODES nodes and LANES lanes (1 of each where none is given). The same numbers give the same script.
 #   pair   mkdir and stat at depth 3, a quarter of the calls on missing names
-#   mixed  every operation of the grammar, by two callers
+#   mixed  the operations that a node carries out alone, by two callers
+#   moved  the same, mostly on files that are there, but for a tenth of the calls: chmod, rmdir and rename of directories
 #   wide   files of one directory: created, looked up and removed, at most 3,000 of them at once
 function draw(below) { state = (state * 69069 + 12345) % 4294967296; return int(state / 65536) % below }
 function name(k) { return substr("abcdefghijklmnopqrstuvwxyz", k + 1, 1) }
@@ -15,6 +16,24 @@ function mixed(missing,   k, who) {
     if (k == 3) line(who " access " path(missing) " " draw(8))
     if (k == 4) line(who " truncate " path(missing) " " draw(65536))
     if (k == 5) line(who " unlink " path(missing))
+}
+function there(missing,   k, who, at, file) {
+    k = draw(6); who = draw(3) == 0 ? "1000:100" : "0:0"
+    if (k == 0) { line(who " mkdir " path(0) " 755"); return }
+    if (k == 1 || !files) { files++; kept[files] = path(0); line(who " create " kept[files] " 666"); return }
+    at = 1 + draw(files); file = missing ? path(1) : kept[at]
+    if (k == 2) line(who " stat " file)
+    if (k == 3) line(who " access " file " " draw(8))
+    if (k == 4) line(who " truncate " file " " draw(65536))
+    if (k == 5) { line(who " unlink " file); if (!missing) kept[at] = kept[files--] }
+}
+function moved(missing,   k, to) {
+    if (own == "") { own = path(0); line("0:0 mkdir " own " 755"); return }
+    if (draw(10)) { there(missing); return }
+    k = draw(4)
+    if (k == 0) line("0:0 chmod /" name(draw(8)) "/" name(draw(8)) " 777")
+    if (k == 1) { line("0:0 rmdir " own); own = "" }
+    if (k > 1) { to = path(0); line("0:0 rename " own " " to); own = to }
 }
 function wide(missing,   file) {
     file = "/a/b/file" draw(3000)
@@ -33,6 +52,7 @@ BEGIN {
         missing = draw(4) == 0
         if (kind == "pair") pair(missing)
         if (kind == "mixed") mixed(missing)
+        if (kind == "moved") moved(missing)
         if (kind == "wide") wide(missing)
     }
 }

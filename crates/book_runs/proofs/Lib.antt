@@ -1,4 +1,5 @@
 pub mod Clients
+pub mod Coords
 pub mod Kept
 pub mod Nodes
 pub mod Opened

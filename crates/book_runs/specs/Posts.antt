@@ -1,10 +1,10 @@
 -- An actor at its seat: it is the replay of its own events, and what it heard was sent.
-use Rattle.std.specs.Prelude.{◌≡◌, ℕ, ◌<◌, Bool, IsTrue, List, [], Some, slice_get}
+use Rattle.std.specs.Prelude.{◌≡◌, ℕ, ◌<◌, Bool, true, IsTrue, List, [], Some, slice_get}
 use Rattle.std.specs.List.{All}
 use Rattle.atomic_table.specs.Seated.{TableId}
 use Rattle.fal_base.specs.declared.call.Config.{Config}
 use Rattle.fal_base.specs.declared.event.Actor.{Actor}
-use Rattle.fal_base.specs.declared.event.Actor.TheVariants.{Client, Node}
+use Rattle.fal_base.specs.declared.event.Actor.TheVariants.{Client, Coord, Node}
 use Rattle.fal_base.specs.declared.event.Envelope.{Envelope}
 use Rattle.fal_base.specs.declared.event.Event.{Event}
 use Rattle.fal_base.specs.declared.event.Event.TheVariants as event
@@ -13,13 +13,16 @@ use Rattle.fal_book.specs.Sitting.{Sitting, Knows}
 use Rattle.fal_client.specs.declared.event.ClientEvent.{ClientEvent}
 use Rattle.fal_client.specs.declared.event.ClientEvent.TheVariants as client
 use Rattle.fal_client.specs.State.{ClientState}
+use Rattle.fal_coord.specs.declared.event.CoordEvent.{CoordEvent}
+use Rattle.fal_coord.specs.declared.event.CoordEvent.TheVariants as coord
+use Rattle.fal_coord.specs.State.{CoordState}
 use Rattle.fal_node.specs.declared.event.NodeEvent.{NodeEvent}
 use Rattle.fal_node.specs.declared.event.NodeEvent.TheVariants as node
 use Rattle.fal_node.specs.State.{NodeState}
 use Rattle.fal_story.specs.declared.inbox.Arrived.{Arrived}
 use Rattle.fal_story.specs.Actors.{number_of, actor_number}
 use Rattle.fal_story.specs.Clusters.{IsCluster, is_lane, is_node}
-use Rattle.fal_story.specs.Machines.{Machine, ClientMachine, NodeMachine}
+use Rattle.fal_story.specs.Machines.{Machine, ClientMachine, CoordMachine, NodeMachine}
 use Rattle.fal_story.specs.Pushing.{MayPush, all_sent}
 use Rattle.fal_story.specs.Replay.{replay}
 
@@ -58,6 +61,10 @@ IsClientPost lane c s xs = IsPost (λ config. is_lane config lane) (Client lane)
 abbrev pub IsNodePost : ℕ → NodeState → Seated → List Arrived → Type 0
 IsNodePost number n s xs = IsPost (λ config. is_node config number) (Node number) (NodeMachine n) s xs
 
+-- the coordinator, at its seat
+abbrev pub IsCoordPost : CoordState → Seated → List Arrived → Type 0
+IsCoordPost c s xs = IsPost (λ config. true) Coord (CoordMachine c) s xs
+
 -- the event is this one of the lane's client, which takes what was sent
 abbrev pub IsOwnOfClientIn : List Envelope → ℕ → Event → ClientEvent → Type 0
 IsOwnOfClientIn sent lane e client.Send = e ≡ event.Send lane
@@ -78,6 +85,15 @@ IsOwnOfNodeIn sent number e (node.Serve item) = e ≡ event.Serve number item
 -- the event is this one of the node, which takes what is in the inbox
 abbrev pub IsOwnOfNode : List Arrived → ℕ → Event → NodeEvent → Type 0
 IsOwnOfNode xs number e own = (sent : List Envelope) → All (IsSent sent) xs → IsOwnOfNodeIn sent number e own
+
+-- the event is this one of the coordinator, which takes what was sent
+abbrev pub IsOwnOfCoordIn : List Envelope → Event → CoordEvent → Type 0
+IsOwnOfCoordIn sent e (coord.Hear envelope) = (k : ℕ) × ((e ≡ event.Hear k) × (slice_get sent k ≡ Some envelope))
+IsOwnOfCoordIn sent e coord.Start = e ≡ event.Start
+
+-- the event is this one of the coordinator, which takes what is in the inbox
+abbrev pub IsOwnOfCoord : List Arrived → Event → CoordEvent → Type 0
+IsOwnOfCoord xs e own = (sent : List Envelope) → All (IsSent sent) xs → IsOwnOfCoordIn sent e own
 
 -- the seat is a new one at the book of this cluster, with this number
 pub record IsNew (config : Config) (n : ℕ) (s : Seated) : Type 0 where

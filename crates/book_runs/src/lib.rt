@@ -2,6 +2,7 @@
 #![tactic(auto)]
 
 mod client_post;
+mod coord_post;
 mod heard;
 mod looking;
 mod node_post;
@@ -9,6 +10,7 @@ mod posts;
 mod runs;
 
 pub use client_post::ClientPost;
+pub use coord_post::CoordPost;
 pub use node_post::NodePost;
 pub use posts::{Posts, post_all, seats_of, take};
 pub use runs::{enter_all, open};

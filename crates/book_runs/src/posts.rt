@@ -1,10 +1,12 @@
 //! All actors of a cluster at their seats.
-ghost use Rattle.std.specs.Prelude.{◌≡◌, All, IfOk, OnOk};
+ghost use Rattle.std.specs.Prelude.{◌≡◌, ◌-◌, ◌<◌, ◌≤◌, All, IfOk, OnOk, length};
+ghost use Rattle.std.specs.Option.{ForSome};
 ghost use Rattle.fal_story.specs.Clusters.{IsCluster};
 ghost use Rattle.book_runs.specs.Posts.{IsNewAt, IsAt};
 ghost use Rattle.book_runs.specs.Whole.{AreAt};
 
 use crate::client_post::ClientPost;
+use crate::coord_post::CoordPost;
 use crate::node_post::NodePost;
 use fal_base::{Config, Event, OutOfMemory, Refuse};
 use fal_book::{ActorSeat, BookLock};
@@ -12,16 +14,78 @@ use fal_story::Book;
 use std::alloc::Global;
 use std::sync::Wait;
 
-/// The nodes from 0 and the clients of the lanes from 1, at their seats, and the seats that no actor of the cluster has.
+/// The nodes from 0, the clients of the lanes from 1 and the coordinator, at their seats, and the seats that no actor of the cluster has.
 #[derive(Drop)]
 pub struct Posts {
     pub nodes: Vec<NodePost>,
     pub clients: Vec<ClientPost>,
+    pub coord: Option<CoordPost>,
     pub rest: Vec<ActorSeat<Book>>,
 }
 
+// Gives a seat to a node.
+#[tactic(auto, using(crate::proofs::Nodes::node_seat))]
+fn give_node(
+    alloc: Global,
+    lock: &BookLock<Book>,
+    config: &Config,
+    number: u8,
+    seat: ActorSeat<Book>,
+    nodes: &mut Vec<NodePost>,
+) -> Result<(), OutOfMemory>
+    requires cluster { IsCluster config.now }
+    requires new { IsNewAt config.now lock.now.table seat }
+    requires number { number ≡ seat.number }
+    requires there { number < config.now.nodes }
+    requires at { All (IsAt lock.now.table) nodes.old.items }
+    ensures { All (IsAt lock.now.table) nodes.new.items }
+{
+    let post = NodePost::new(alloc, config, number, seat)?;
+    nodes.push(post)?;
+    Ok(())
+}
+
+// Gives a seat to a client. Its lane is the seat's number from 16 on.
+#[tactic(auto, using(crate::proofs::Clients::client_seat))]
+fn give_client(
+    alloc: Global,
+    lock: &BookLock<Book>,
+    config: &Config,
+    number: u8,
+    seat: ActorSeat<Book>,
+    clients: &mut Vec<ClientPost>,
+) -> Result<(), OutOfMemory>
+    requires cluster { IsCluster config.now }
+    requires new { IsNewAt config.now lock.now.table seat }
+    requires number { number ≡ seat.number }
+    requires above { 16 < number }
+    requires there { number - 16 ≤ length config.now.lanes }
+    requires at { All (IsAt lock.now.table) clients.old.items }
+    ensures { All (IsAt lock.now.table) clients.new.items }
+{
+    let post = ClientPost::new(alloc, config, number - 16, seat)?;
+    clients.push(post)?;
+    Ok(())
+}
+
+// Gives a seat to the coordinator.
+#[tactic(auto, using(crate::proofs::Coords::coord_seat))]
+fn give_coord(
+    alloc: Global,
+    lock: &BookLock<Book>,
+    config: &Config,
+    seat: ActorSeat<Book>,
+    coord: &mut Option<CoordPost>,
+)
+    requires cluster { IsCluster config.now }
+    requires new { IsNewAt config.now lock.now.table seat }
+    requires number { seat.number ≡ 16 }
+    ensures { ForSome coord.new (IsAt lock.now.table) }
+{
+    *coord = Some(CoordPost::new(alloc, config, seat));
+}
+
 // Gives one more seat to its actor.
-#[tactic(auto, using(crate::proofs::Clients::client_seat, crate::proofs::Nodes::node_seat))]
 fn give(
     alloc: Global,
     lock: &BookLock<Book>,
@@ -36,14 +100,14 @@ fn give(
 {
     let number = seat.number();
     if number < config.nodes {
-        let post = NodePost::new(alloc, config, number, seat)?;
-        posts.nodes.push(post)?;
+        return give_node(alloc, lock, config, number, seat, &mut posts.nodes);
+    }
+    if number == 16 {
+        give_coord(alloc, lock, config, seat, &mut posts.coord);
         return Ok(());
     }
     if number > 16 && usize::from(number - 16) <= config.lanes.len() {
-        let post = ClientPost::new(alloc, config, number - 16, seat)?;
-        posts.clients.push(post)?;
-        return Ok(());
+        return give_client(alloc, lock, config, number, seat, &mut posts.clients);
     }
     posts.rest.push(seat)?;
     Ok(())
@@ -63,6 +127,7 @@ pub fn post_all(
     let mut posts = Posts {
         nodes: Vec::new(alloc),
         clients: Vec::new(alloc),
+        coord: None,
         rest: Vec::new(alloc),
     };
     for seat in seats {
@@ -96,7 +161,10 @@ pub fn take<R: Wait>(
         Event::Release { node, .. } | Event::Serve { node, .. } => {
             node_at(rt, lock, &mut posts.nodes, node, event)
         }
-        Event::Hear { .. } | Event::Start => Err(Refuse::NotEnabled),
+        Event::Hear { .. } | Event::Start => match &mut posts.coord {
+            Some(post) => coord_takes(rt, lock, post, event),
+            None => Err(Refuse::NotEnabled),
+        },
     }
 }
 
@@ -105,6 +173,22 @@ fn client_takes<R: Wait>(
     rt: &R,
     lock: &BookLock<Book>,
     post: &mut ClientPost,
+    event: Event,
+) -> Result<u64, Refuse>
+    requires { post.old.lock ≡ lock.now.table }
+    ensures { post.new.lock ≡ lock.now.table }
+{
+    match post.look(rt, lock) {
+        Ok(_) => post.enter(rt, lock, event),
+        Err(OutOfMemory) => Err(Refuse::OutOfMemory),
+    }
+}
+
+// The coordinator looks at the book and enters the event.
+fn coord_takes<R: Wait>(
+    rt: &R,
+    lock: &BookLock<Book>,
+    post: &mut CoordPost,
     event: Event,
 ) -> Result<u64, Refuse>
     requires { post.old.lock ≡ lock.now.table }
@@ -151,6 +235,23 @@ fn node_at<R: Wait>(
     node_takes(rt, lock, post, event)
 }
 
+// These seats and the coordinator's, if it has one.
+fn with_coord(
+    lock: &BookLock<Book>,
+    rest: Vec<ActorSeat<Book>>,
+    coord: Option<CoordPost>,
+) -> Result<Vec<ActorSeat<Book>>, OutOfMemory>
+    requires rest { All (IsAt lock.now.table) rest.items }
+    requires coord { ForSome coord (IsAt lock.now.table) }
+    ensures { IfOk result (λ seats. All (IsAt lock.now.table) seats.items) }
+{
+    let mut seats = rest;
+    if let Some(post) = coord {
+        seats.push(post.into_seat())?;
+    }
+    Ok(seats)
+}
+
 /// All seats once more, where there is the memory for them.
 pub fn seats_of(lock: &BookLock<Book>, posts: Posts) -> Result<Vec<ActorSeat<Book>>, OutOfMemory>
     requires { AreAt lock.now.table posts }
@@ -159,9 +260,10 @@ pub fn seats_of(lock: &BookLock<Book>, posts: Posts) -> Result<Vec<ActorSeat<Boo
     let Posts {
         nodes,
         clients,
+        coord,
         rest,
     } = posts;
-    let mut seats = rest;
+    let mut seats = with_coord(lock, rest, coord)?;
     for post in nodes {
         seats.push(post.into_seat())?;
     }

@@ -1,11 +1,12 @@
 //! Whole runs, entered through the lock.
-ghost use Rattle.std.specs.Prelude.{◌≡◌, IfOk};
+ghost use Rattle.std.specs.Prelude.{◌≡◌, All, IfOk};
 ghost use Rattle.fal_story.specs.Clusters.{IsCluster};
+ghost use Rattle.book_runs.specs.Posts.{IsAt};
 ghost use Rattle.book_runs.specs.Whole.{AreAt};
 
 use crate::posts::{Posts, post_all, seats_of, take};
 use fal_base::{Config, Duplicate, Event, OutOfMemory, Refuse};
-use fal_book::BookLock;
+use fal_book::{ActorSeat, BookLock};
 use fal_story::Book;
 use std::alloc::Global;
 use std::sync::Wait;
@@ -40,6 +41,24 @@ fn enter_each<R: Wait>(
     Ok(())
 }
 
+// The seats after these events, each entered by its actor after a look.
+fn seats_after<R: Wait>(
+    rt: &R,
+    lock: &BookLock<Book>,
+    posts: Posts,
+    events: &[Event],
+) -> Result<Vec<ActorSeat<Book>>, Refuse>
+    requires { AreAt lock.now.table posts }
+    ensures { IfOk result (λ seats. All (IsAt lock.now.table) seats.items) }
+{
+    let mut posts = posts;
+    enter_each(rt, lock, &mut posts, events)?;
+    match seats_of(lock, posts) {
+        Ok(seats) => Ok(seats),
+        Err(OutOfMemory) => Err(Refuse::OutOfMemory),
+    }
+}
+
 /// Each of these events in turn is entered by its actor, after a look, on this one thread. Gives the book that the lock was round.
 pub fn enter_all<R: Wait>(
     rt: &R,
@@ -49,13 +68,10 @@ pub fn enter_all<R: Wait>(
 ) -> Result<Book, Refuse>
     requires { IsCluster config }
 {
-    let Ok((lock, mut posts)) = open(alloc, config) else {
+    let Ok((lock, posts)) = open(alloc, config) else {
         return Err(Refuse::OutOfMemory);
     };
-    enter_each(rt, &lock, &mut posts, events)?;
-    let Ok(seats) = seats_of(&lock, posts) else {
-        return Err(Refuse::OutOfMemory);
-    };
+    let seats = seats_after(rt, &lock, posts, events)?;
     if seats.len() != usize::from(SEATS) {
         return Err(Refuse::NotEnabled);
     }

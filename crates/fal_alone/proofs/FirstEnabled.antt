@@ -25,7 +25,7 @@ use Rattle.fal_node.specs.Serve.{can_serve, serve, served}
 use Rattle.fal_node.specs.State.{NodeState, released}
 use Rattle.fal_node.specs.Step.{node_step, only_if, release}
 use Rattle.fal_alone.proofs.ItemNumbers.{HaveItems, legal_items}
-use Rattle.fal_alone.proofs.Resting.{sent_is_heard}
+use Rattle.fal_alone.proofs.Hearing.{sent_is_heard}
 use Rattle.fal_alone.proofs.Taken.{hears_own, takes_own, client_some, node_some, coord_some}
 use Rattle.fal_alone.specs.Turns.{deed_in}
 use Rattle.fal_story.proofs.Drain.Dues.{IsDue, due_is}
@@ -137,10 +137,6 @@ own_enabled config w n (own.Exec number) there is = node_some w n (is_node confi
 own_enabled config w n (own.Release number) there is = node_some w n (is_node config n) (node_step (w.nodes n) (node.Release number)) there is
 own_enabled config w n (own.Serve number) there is = node_some w n (is_node config n) (node_step (w.nodes n) (node.Serve number)) there is
 
--- the coordinator hears what was sent to it
-abbrev Hears : World → Type 0
-Hears w = (number : ℕ) (x : Envelope) → slice_get w.envelopes number ≡ Some x → x.to ≡ Coord → IsSome (coord_step w.coord (coord_event.Hear x))
-
 module _ (config : Config) (w : World) (came : ℕ → Bool) (k : IsKept config w) where
   get_enabled : (l number : ℕ) → IsTrue (is_lane config l) → IsDue (Client l) came 0 w.envelopes number → IsEnabled config w (event.Get l number)
   unfolding deed
@@ -166,12 +162,12 @@ module _ (config : Config) (w : World) (came : ℕ → Bool) (k : IsKept config 
       (each_due (Node n) came w.envelopes (λ envelope. IsEnabled config w (event.Deliver n envelope)) (λ number d. deliver_enabled n number there d)))
       (each_map (IsEnabled config w) (λ e. event_of_node n e) (dues (w.nodes n)) (each_weaker (IsOwn (w.nodes n)) _ (dues (w.nodes n)) (λ e is. own_enabled config w n e there is) owned))
 
-  hear_enabled : Hears w → (number : ℕ) → IsDue Coord came 0 w.envelopes number → IsEnabled config w (event.Hear number)
+  hear_enabled : (number : ℕ) → IsDue Coord came 0 w.envelopes number → IsEnabled config w (event.Hear number)
   unfolding deed
-  hear_enabled heard number d =
+  hear_enabled number d =
       let stands = due_stands Coord came w.envelopes number d in
       subst (λ o. IsSome (deed_by w Coord (coord_made (coord_hears w.coord o)))) (sym stands)
-      (coord_some w (coord_step w.coord (coord_event.Hear d.envelope)) (heard number d.envelope stands (to_coord d.envelope.to d.to)))
+      (coord_some w (coord_step w.coord (coord_event.Hear d.envelope)) (sent_is_heard w.coord d.envelope (to_coord d.envelope.to d.to)))
 
   start_enabled : Each (IsEnabled config w) (fresh_start w)
   unfolding deed
@@ -181,15 +177,15 @@ module _ (config : Config) (w : World) (came : ℕ → Bool) (k : IsKept config 
         | false ↦ λ is. tt
       ] refl
 
-  coord_enabled : Hears w → Each (IsEnabled config w) (fresh_at_coord w came)
-  coord_enabled heard =
+  coord_enabled : Each (IsEnabled config w) (fresh_at_coord w came)
+  coord_enabled =
       each_join (IsEnabled config w) (map (λ number. event.Hear number) (due Coord came w.envelopes)) (fresh_start w)
       (each_map (IsEnabled config w) (λ number. event.Hear number) (due Coord came w.envelopes)
-      (each_due Coord came w.envelopes (λ number. IsEnabled config w (event.Hear number)) (λ number d. hear_enabled heard number d)))
+      (each_due Coord came w.envelopes (λ number. IsEnabled config w (event.Hear number)) (λ number d. hear_enabled number d)))
       start_enabled
 
-  replies_enabled : IsFollowed w came → HaveItems w → Hears w → Each (IsEnabled config w) (fresh_replies config w came)
-  replies_enabled f items heard =
+  replies_enabled : IsFollowed w came → HaveItems w → Each (IsEnabled config w) (fresh_replies config w came)
+  replies_enabled f items =
       let of_lanes = flat_map (λ lane. fresh_gets w came lane) (range_with_len 1 (length config.lanes)) in
       let of_nodes = flat_map (λ number. fresh_at_node w came number) (range_with_len 0 config.nodes) in
       each_join (IsEnabled config w) (of_lanes ++ of_nodes) (fresh_at_coord w came)
@@ -197,7 +193,7 @@ module _ (config : Config) (w : World) (came : ℕ → Bool) (k : IsKept config 
       (each_range (IsEnabled config w) (λ lane. fresh_gets w came lane) 1 (length config.lanes) (λ l low high. let there : IsTrue (is_lane config l) = grind (arith, nat_tests) in lane_enabled l there))
       (each_range (IsEnabled config w) (λ number. fresh_at_node w came number) 0 config.nodes
       (λ n low high. let there : IsTrue (is_node config n) = grind (arith, nat_tests) in node_enabled n there (dues_own (w.nodes n) (f.batches n).apart (items n).apart))))
-      (coord_enabled heard)
+      coord_enabled
 
 -- the first fresh event after a legal run, other than a Send, is enabled
 pub first_enabled : (config : Config) (events : List Event) (e : Event) → IsLegal config events → first_reply config events ≡ Some e → IsSome (deed_in config (run config events) e)
@@ -207,5 +203,5 @@ first_enabled config events e legal first =
       | Some w ↦ λ at z.
           let live = legal_lives config events w legal at in
           each_in (IsEnabled config w) (fresh_replies config w (came events)) e
-          (replies_enabled config w (came events) live.0 live.1.followed (legal_items config events w legal at) (sent_is_heard config events w legal at)) (in_at (fresh_replies config w (came events)) 0 e z)
+          (replies_enabled config w (came events) live.0 live.1.followed (legal_items config events w legal at)) (in_at (fresh_replies config w (came events)) 0 e z)
     ] refl first

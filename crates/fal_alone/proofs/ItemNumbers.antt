@@ -1,6 +1,6 @@
 -- The items of each node of a legal run differ by their numbers.
-use Rattle.std.proofs.Common.{◌≡◌, ℕ, ◌+◌, ◌<◌, true, false, cond, List, [], ◌∷◌, Option, Some, None, Result, Ok, Err, is_some, sym, subst, arith}
-use Rattle.std.specs.Prelude.{slice_get, ◌==◌}
+use Rattle.std.proofs.Common.{◌≡◌, ℕ, ◌+◌, ◌<◌, true, false, cond, List, [], ◌∷◌, Option, Some, None, Result, Ok, Err, is_some, subst, arith}
+use Rattle.std.specs.Prelude.{slice_get, nat_lt, ◌==◌}
 use Rattle.fal_base.specs.declared.call.CallRec.{CallRec}
 use Rattle.std.proofs.lemmas.Option.{none-some, same_Some}
 use Rattle.fal_base.specs.declared.call.Config.{Config}
@@ -9,7 +9,9 @@ use Rattle.fal_base.specs.declared.event.Envelope.{Envelope}
 use Rattle.fal_base.specs.declared.event.Event.{Event}
 use Rattle.fal_base.specs.declared.event.Event.TheVariants as event
 use Rattle.fal_base.specs.declared.inode.Dentry.{Dentry}
+use Rattle.fal_base.specs.declared.event.Point.TheVariants.{Here}
 use Rattle.fal_base.specs.declared.key.Key.{Key}
+use Rattle.fal_base.specs.declared.row.Update.{Update}
 use Rattle.fal_batch.specs.Plan.{Planning}
 use Rattle.fal_client.specs.declared.event.ClientEvent.TheVariants as client
 use Rattle.fal_client.specs.State.{Work as ClientWork}
@@ -17,18 +19,19 @@ use Rattle.fal_client.specs.Step.{client_step}
 use Rattle.fal_coord.specs.declared.event.CoordEvent.TheVariants as coord_event
 use Rattle.fal_coord.specs.State.{Work as CoordWork}
 use Rattle.fal_coord.specs.Step.{coord_step}
+use Rattle.fal_duty.specs.Duties.{owned, count_told}
 use Rattle.fal_exec.specs.RowCall.{row_names}
 use Rattle.fal_node.specs.declared.batch.Batch.{Batch}
 use Rattle.fal_run.specs.declared.call.BatchCall.{BatchCall}
 use Rattle.fal_node.specs.declared.event.NodeEvent.{NodeEvent}
 use Rattle.fal_node.specs.declared.event.NodeEvent.TheVariants.{Deliver, Gather, Exec, Release, Serve}
 use Rattle.fal_node.specs.declared.item.Item.{Item}
-use Rattle.fal_node.specs.Deliver.{admitted, learned, dismissed, settle, settle_pending, take_message, take_read, delivered}
+use Rattle.fal_node.specs.Deliver.{admitted, learned, dismissed, settle, settle_pending, with_operation, take_operation, take_count, take_commit, reopened, take_message, take_read, delivered}
 use Rattle.fal_node.specs.Exec.{exec_all, exec_one, exec_as, executed, with_executed}
 use Rattle.fal_node.specs.Gather.{plan_at, leaving, with_waiting, batch_calls, with_batch, batched, gathered}
 use Rattle.fal_node.specs.Letters.{Work, begun, is_asker}
-use Rattle.fal_node.specs.Serve.{served}
-use Rattle.fal_node.specs.State.{NodeState, opening_node, with_item, without_item, released}
+use Rattle.fal_node.specs.Serve.{served, service_of, shutting}
+use Rattle.fal_node.specs.State.{NodeState, is_of, opening_node, with_item, without_item, released}
 use Rattle.fal_node.specs.Step.{node_step}
 use Rattle.fal_wait.specs.declared.pending_fetch.PendingFetch.{PendingFetch}
 use Rattle.fal_wait.specs.Waiting.{fetch_of}
@@ -37,9 +40,10 @@ use Rattle.fal_wire.specs.declared.message.Found.{Found}
 use Rattle.fal_wire.specs.declared.message.Found.TheVariants as found
 use Rattle.fal_wire.specs.declared.message.Message.{Message}
 use Rattle.fal_wire.specs.declared.message.Message.TheVariants as message
+use Rattle.fal_wire.specs.Letters.{letter}
 use Rattle.fal_wire.specs.Messages.{reading}
 use Rattle.fal_story.proofs.Lists.Each.{Each, Apart, each_weaker, each_join}
-use Rattle.fal_story.proofs.Events.Enabled.{delivers, gathers, execs, releases, serves, served_is}
+use Rattle.fal_story.proofs.Events.Enabled.{delivers, gathers, execs, releases, serves}
 use Rattle.fal_story.proofs.Lists.Grown.{put_all}
 use Rattle.fal_story.proofs.Lists.Members.{apart_push, each_without_first, apart_without_first}
 use Rattle.fal_story.proofs.Drain.MovingClient.{AfterClient}
@@ -73,6 +77,21 @@ asked_items x m h =
       below = each_join (λ (i : Item). i.number < x.items_numbered + 1) x.items (item ∷ []) (each_weaker _ _ x.items (λ i low. omega arith) h.below) (omega arith, tt);
     }
 
+operation_items : (x : NodeState) (operation : ℕ) (m : Message) → HasItems x → HasItems (take_operation x operation m)
+unfolding with_operation
+operation_items x operation m h =
+    let asked = asked_items x m h in
+    elim (nat_lt x.last_operation operation) as (λ b. HasItems (cond b (with_operation x operation m) x)) [ true ↦ record { apart = asked.apart; below = asked.below } | false ↦ h ]
+
+count_items : (x : NodeState) (operation : ℕ) (dir : ℕ) → HasItems x → HasItems (take_count x operation dir).node
+count_items x operation dir h =
+    elim (is_of x.locks.shut operation) as (λ b. HasItems (cond b (record (begun x) { sent = letter Coord (Here 0) (count_told x.rows x.number operation dir) ∷ [] }) (begun x)).node) [ true ↦ h | false ↦ h ]
+
+commit_items : (x : NodeState) (operation : ℕ) (updates : List Update) → HasItems x → HasItems (take_commit x operation updates).node
+unfolding reopened
+commit_items x operation updates h =
+    elim (is_of x.locks.shut operation) as (λ b. HasItems (cond b (record { node = reopened x operation (owned x.table x.number updates); sent = letter Coord (Here 0) (message.Done operation x.number) ∷ []; notes = [] }) (begun x)).node) [ true ↦ record { apart = h.apart; below = h.below } | false ↦ h ]
+
 learned_items : (x : NodeState) (number : ℕ) (key : Key) (dentry : Dentry) → HasItems x → HasItems (learned x number key dentry)
 unfolding learned
 learned_items x number key dentry h = record { apart = h.apart; below = h.below }
@@ -95,6 +114,9 @@ message_items x point (message.Call call) h = elim (is_some (row_names call.op))
 message_items x point (message.FetchAsk asker number key) h =
     elim (is_asker x.table.nodes asker) as (λ b. HasItems (cond b (with_item x (message.FetchAsk asker number key)) x)) [ true ↦ asked_items x (message.FetchAsk asker number key) h | false ↦ h ]
 message_items x point (message.FetchGot number key what) h = pending_items x point key what (fetch_of x.waiting number) h
+message_items x point (message.Lock operation keys) h = operation_items x operation (message.Lock operation keys) h
+message_items x point (message.Count operation dir) h = count_items x operation dir h
+message_items x point (message.Commit operation updates) h = commit_items x operation updates h
 message_items x point other h = h
 
 read_items : (x : NodeState) (point : ℕ) (read : Result Message WireFault) → HasItems x → HasItems (take_read x point read).node
@@ -129,14 +151,23 @@ released_items : (x : NodeState) (number : ℕ) → HasItems x → HasItems (rel
 unfolding released
 released_items x number h = record { apart = h.apart; below = h.below }
 
+service_items : (x : NodeState) (m : Message) → HasItems x → HasItems (service_of x m).work.node
+unfolding shutting
+service_items x (message.FetchAsk asker number key) h = h
+service_items x (message.Lock operation keys) h = record { apart = h.apart; below = h.below }
+service_items x other h = h
+
 served_items : (x : NodeState) (item : Item) → HasItems x → HasItems (served x item).node
-unfolding without_item
+unfolding served without_item
 served_items x item h =
     let test = λ (i : Item). i.number == item.number in
-    subst (λ (k : Work). HasItems k.node) (sym (served_is x item)) (record {
-      apart = apart_without_first (λ (i : Item). i.number) test x.items h.apart;
-      below = each_without_first (λ (i : Item). i.number < x.items_numbered) test x.items h.below;
-    })
+    let served_by = service_items x item.message h in
+    let items = (service_of x item.message).work.node.items in
+    let numbered = (service_of x item.message).work.node.items_numbered in
+    record {
+      apart = apart_without_first (λ (i : Item). i.number) test items served_by.apart;
+      below = each_without_first (λ (i : Item). i.number < numbered) test items served_by.below;
+    }
 
 step_items : (x : NodeState) (e : NodeEvent) (k : Work) → HasItems x → node_step x e ≡ Some k → HasItems k.node
 step_items x (Deliver envelope) k h is = delivers x envelope k (λ y. HasItems y.node) (λ to. delivered_items x envelope h) is

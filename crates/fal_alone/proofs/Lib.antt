@@ -2,6 +2,7 @@ pub mod Drains
 pub mod FirstEnabled
 pub mod Following
 pub mod FreshRuns
+pub mod Hearing
 pub mod ItemNumbers
 pub mod NodeRows
 pub mod Openings
@@ -10,7 +11,6 @@ pub mod Places
 pub mod Pushes
 pub mod QuietRuns
 pub mod Ranged
-pub mod Resting
 pub mod Roles
 pub mod RowLines
 pub mod Taken

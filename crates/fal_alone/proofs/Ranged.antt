@@ -11,19 +11,24 @@ use Rattle.fal_client.specs.declared.event.ClientEvent.{ClientEvent}
 use Rattle.fal_client.specs.declared.event.ClientEvent.TheVariants as client
 use Rattle.fal_client.specs.State.{ClientState}
 use Rattle.fal_client.specs.Step.{CanMake}
+use Rattle.fal_coord.specs.declared.event.CoordEvent.{CoordEvent}
+use Rattle.fal_coord.specs.declared.event.CoordEvent.TheVariants as coord_event
+use Rattle.fal_coord.specs.State.{CoordState}
+use Rattle.fal_coord.specs.Step.{CanMake as CanMakeCoord}
 use Rattle.fal_node.specs.declared.event.NodeEvent.{NodeEvent}
 use Rattle.fal_node.specs.declared.event.NodeEvent.TheVariants as node
 use Rattle.fal_node.specs.State.{NodeState}
 use Rattle.fal_node.specs.Step.{StaysWithin}
+use Rattle.fal_story.proofs.Ranges.CoordInRange.{coord_in_range}
 use Rattle.fal_story.proofs.Ranges.InRange.{client_in_range, node_in_range}
 use Rattle.fal_story.proofs.Events.LegalRuns.{legal_kept, step_counts}
-use Rattle.fal_story.proofs.Ranges.Bounds.{Comes, ComesToClient}
+use Rattle.fal_story.proofs.Ranges.Bounds.{Comes, ComesToClient, ComesToCoord}
 use Rattle.fal_story.specs.Clusters.{is_lane, is_node}
 use Rattle.fal_story.specs.Machines.{envelope_named}
 use Rattle.fal_story.specs.Run.{IsLegal, run, run_from, step}
 use Rattle.fal_story.specs.Told.{Told}
 use Rattle.fal_story.specs.World.{World, opening_world}
-use Rattle.fal_alone.specs.Turns.{world_of, ClientGets, NodeGets, IsEventOfClient, IsEventOfClientIn, IsEventOfNode, IsEventOfNodeIn, IsClientIn, IsNodeIn}
+use Rattle.fal_alone.specs.Turns.{world_of, ClientGets, CoordGets, NodeGets, IsEventOfClient, IsEventOfClientIn, IsEventOfCoord, IsEventOfCoordIn, IsEventOfNode, IsEventOfNodeIn, IsClientIn, IsCoordIn, IsNodeIn}
 
 -- the envelope that an event names was sent
 named_sent : (sent : List Envelope) (e : Event) (x : Envelope) → envelope_named sent e ≡ Some x → (number : ℕ) × (slice_get sent number ≡ Some x)
@@ -42,6 +47,10 @@ comes_to_node w e node.Gather gets = tt
 comes_to_node w e (node.Exec batch) gets = tt
 comes_to_node w e (node.Release batch) gets = tt
 comes_to_node w e (node.Serve item) gets = tt
+
+comes_to_coord : (w : World) (e : Event) (own : CoordEvent) → CoordGets own (envelope_named w.envelopes e) → ComesToCoord w own
+comes_to_coord w e (coord_event.Hear envelope) gets = named_sent w.envelopes e envelope gets
+comes_to_coord w e coord_event.Start gets = tt
 
 -- a world counts the events that led to it
 run_counts : (config : Config) (w u : World) (events : List Event) → run_from config (Some w) events ≡ Some u → u.events ≡ w.events + length events
@@ -88,4 +97,16 @@ node_stays_within told e number own n legal there is at =
           subst (λ s. StaysWithin s own) (sym a)
           (λ work does.
           (node_in_range told.config w number k.ghost own work legal.cluster below (few_events told.config w told.events legal.few r) k.shows k.ranged (comes_to_node w e own i.gets) does).0)
+    ] refl is at
+
+-- and so is what the coordinator makes
+pub coord_can_make : (told : Told) (e : Event) (own : CoordEvent) (c : CoordState) → IsLegal told.config told.events → IsEventOfCoord told e own → IsCoordIn (world_of told) c → CanMakeCoord c own
+coord_can_make told e own c legal is at =
+    elim (run told.config told.events) as (λ o. run told.config told.events ≡ o → IsEventOfCoordIn told.config o e own → IsCoordIn o c → CanMakeCoord c own) [
+      | None ↦ λ r i a. absurd i
+      | Some w ↦ λ r i a.
+          let k = legal_kept told.config told.events w legal r in
+          let few = few_events told.config w told.events legal.few r in
+          subst (λ s. CanMakeCoord s own) (sym a)
+          (λ work makes. (coord_in_range told.config w k.ghost own work legal.cluster few k.shows k.ranged (comes_to_coord w e own i.gets) makes).0)
     ] refl is at

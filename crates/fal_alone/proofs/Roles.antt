@@ -8,8 +8,9 @@ use Rattle.fal_client.specs.Patch.{IsStepOf as IsClientStep, patched as patched_
 use Rattle.fal_client.specs.State.{ClientState, Work as ClientWork}
 use Rattle.fal_coord.specs.declared.patch.Patch.{Patch as CoordPatch}
 use Rattle.fal_coord.specs.declared.patch.Prepared.{Prepared as CoordPrepared}
-use Rattle.fal_coord.specs.Patch.{IsStepOf as IsCoordStep, patched as patched_coord}
-use Rattle.fal_coord.specs.State.{CoordState, Work as CoordWork}
+use Rattle.fal_coord.specs.Patch.{SeenCoord, patched as patched_coord}
+use Rattle.fal_coord.specs.Ready.{IsStepOf as IsCoordStep}
+use Rattle.fal_coord.specs.State.{Work as CoordWork}
 use Rattle.fal_node.specs.declared.patch.Patch.{Patch}
 use Rattle.fal_node.specs.declared.patch.Prepared.{Prepared}
 use Rattle.fal_node.specs.Letters.{Work}
@@ -42,15 +43,14 @@ client_prepared c d work p patch o step same is outputs =
 
 -- ---- the coordinator
 
-coord_step_made : (c : CoordState) (work : Option CoordWork) (p : CoordPrepared) → IsCoordStep c work p → coord_made work ≡ Some (CoordMachine (patched_coord c p.patch), p.outputs)
-coord_step_made c None p step = absurd step
-coord_step_made c (Some work) p step = λ i. Some (CoordMachine (step.coord_after i), record { sent = sym step.sent i; notes = sym step.notes i })
+coord_step_made : (s : SeenCoord) (work : Option CoordWork) (p : CoordPrepared) → IsCoordStep s work p → coord_made work ≡ Some (CoordMachine (patched_coord s.state p.patch), p.outputs)
+coord_step_made s None p step = absurd step
+coord_step_made s (Some work) p step = λ i. Some (CoordMachine (step.coord_after i), record { sent = sym step.sent i; notes = sym step.notes i })
 
 -- the step that the coordinator prepared, once its outputs were handed over
-pub coord_prepared : (c d : CoordState) (work : Option CoordWork) (p : CoordPrepared) (patch : CoordPatch) (o : Outputs) → IsCoordStep c work p → d ≡ c → patch ≡ p.patch → o ≡ p.outputs
-    → coord_made work ≡ Some (CoordMachine (patched_coord d patch), o)
-coord_prepared c d work p patch o step same is outputs =
-    coord_step_made c work p step ∙ (λ i. Some (CoordMachine (patched_coord (sym same i) (sym is i)), sym outputs i))
+pub coord_prepared : (s : SeenCoord) (work : Option CoordWork) (p : CoordPrepared) (patch : CoordPatch) (o : Outputs) → IsCoordStep s work p → patch ≡ p.patch → o ≡ p.outputs
+    → coord_made work ≡ Some (CoordMachine (patched_coord s.state patch), o)
+coord_prepared s work p patch o step is outputs = coord_step_made s work p step ∙ (λ i. Some (CoordMachine (patched_coord s.state (sym is i)), sym outputs i))
 
 -- ---- nodes
 

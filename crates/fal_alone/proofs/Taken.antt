@@ -30,7 +30,7 @@ use Rattle.fal_story.specs.Clusters.{is_lane, is_node}
 use Rattle.fal_story.specs.Machines.{Made, only_where, client_hears, node_hears, coord_hears, client_made, node_made, coord_made}
 use Rattle.fal_story.specs.Run.{run, client_deed, node_deed, deed, deed_by, envelopes_at, IsLegal}
 use Rattle.fal_story.specs.World.{World}
-use Rattle.fal_alone.proofs.Resting.{heard_was_sent, sent_is_heard}
+use Rattle.fal_alone.proofs.Hearing.{heard_was_sent, sent_is_heard}
 use Rattle.fal_alone.specs.Queues.{WasSentTo}
 use Rattle.fal_alone.specs.Turns.{deed_in, IsEventOfClientIn, IsEventOfNodeIn, IsEventOfCoordIn}
 
@@ -239,7 +239,7 @@ some_hear config events number legal sent =
       | Some w ↦ λ t s.
           let x = s.0 in
           subst (λ y. is_some (deed_by w Coord (coord_made (coord_hears w.coord y))) ≡ true) (sym s.1.0)
-          (coord_some w (coord_step w.coord (coord_event.Hear x)) (sent_is_heard config events w legal t number x s.1.0 s.1.1))
+          (coord_some w (coord_step w.coord (coord_event.Hear x)) (sent_is_heard w.coord x s.1.1))
     ] refl sent
   where
     nowhere : WasSentTo Coord number [] → ⊥

@@ -26,7 +26,7 @@ use Rattle.fal_story.specs.Machines.{Machine, Made, coord_made, client_hears, no
 use Rattle.fal_story.specs.Run.{Deed, IsLegal, Follows, Makes, client_deed, deed, deed_by, done, envelopes_at, machine_in, node_deed, run, with_machine}
 use Rattle.fal_story.specs.Told.{Told}
 use Rattle.fal_story.specs.World.{World, posted, envelopes_of}
-use Rattle.fal_alone.proofs.Resting.{heard_was_sent}
+use Rattle.fal_alone.proofs.Hearing.{heard_was_sent}
 use Rattle.fal_alone.specs.Queues.{WasSentTo, TakesItsOwn}
 use Rattle.fal_alone.specs.Turns.{world_of, told_envelopes, with_event, deed_in, deed_after, sent_count, IsOwn, IsOwnIn, IsEventIn, IsStateIn, Next, NextIn}
 

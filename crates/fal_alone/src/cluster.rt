@@ -36,7 +36,7 @@ impl Model for Cluster {
 
     ghost view = { λ c. c.book.told };
 
-    ghost invariant = { λ c. IsWhole c.book.told.config c.book.told.events c.clients.items c.nodes.items c.coord c.queues.items };
+    ghost invariant = { λ c. IsWhole c.book.told.config c.book.told.events c.clients.items c.nodes.items c.coord.state c.queues.items };
 }
 
 impl Cluster {
@@ -47,8 +47,8 @@ impl Cluster {
     {
         let clients = clients_of(alloc, &config)?;
         let nodes = nodes_of(alloc, &config)?;
-        let coord = Coord::new(alloc, config.nodes);
         let queues = queues_of(alloc, clients.len() + 1 + nodes.len())?;
+        let coord = Coord::new(alloc, config.nodes);
         Ok(Cluster {
             alloc,
             book: Book::new(alloc, config),

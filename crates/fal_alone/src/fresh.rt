@@ -67,7 +67,7 @@ fn first_at_node(number: u8, queue: &Queue, node: &Node) -> Option<Event>
 
 // The first event of the coordinator: what comes, or else its Start.
 fn first_at_coord(queue: &Queue, coord: &Coord) -> Option<Event>
-    ensures { result ≡ slice_get (coord_events queue.now coord.now) 0 }
+    ensures { result ≡ slice_get (coord_events queue.now coord.now.state) 0 }
 {
     match queue.first() {
         Some(env) => Some(Event::Hear { env }),
@@ -159,7 +159,7 @@ fn push_dues(events: &mut Vec<Event>, number: u8, node: &Node) -> Result<(), Out
 
 // Puts the coordinator's Start at the end, where it has one.
 fn push_start(events: &mut Vec<Event>, coord: &Coord) -> Result<(), OutOfMemory>
-    ensures { OnOk result (events.new.items ≡ events.old.items ++ starts coord.now) }
+    ensures { OnOk result (events.new.items ≡ events.old.items ++ starts coord.now.state) }
 {
     if coord.can_start() {
         events.push(Event::Start)?;
@@ -215,7 +215,7 @@ fn push_nodes(events: &mut Vec<Event>, queues: &[Queue], nodes: &[Node]) -> Resu
 
 // Puts all that is fresh at the coordinator at the end.
 fn push_coord(events: &mut Vec<Event>, queue: &Queue, coord: &Coord) -> Result<(), OutOfMemory>
-    ensures { OnOk result (events.new.items ≡ events.old.items ++ coord_events queue.now coord.now) }
+    ensures { OnOk result (events.new.items ≡ events.old.items ++ coord_events queue.now coord.now.state) }
 {
     push_arrivals(events, Actor::Coord, queue)?;
     push_start(events, coord)?;

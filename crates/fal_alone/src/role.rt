@@ -79,7 +79,7 @@ impl Role for Client {
 }
 
 impl Role for Coord {
-    ghost use Rattle.fal_coord.specs.Patch.{patched};
+    ghost use Rattle.fal_coord.specs.Ready.{CanApply, after};
     ghost use Rattle.fal_coord.specs.Step.{CanMake, coord_step};
     ghost use Rattle.fal_story.specs.Machines.{CoordMachine, coord_made};
 
@@ -87,15 +87,15 @@ impl Role for Coord {
 
     type Prepared = fal_coord::Prepared;
 
-    ghost machine = { λ c. CoordMachine c };
+    ghost machine = { λ c. CoordMachine c.state };
 
-    ghost made = { λ c own. coord_made (coord_step c own) };
+    ghost made = { λ c own. coord_made (coord_step c.state own) };
 
-    ghost can_make = { λ c own. CanMake c own };
+    ghost can_make = { λ c own. CanMake c.state own };
 
-    ghost can_apply = { λ c prepared. Unit {0} };
+    ghost can_apply = { λ c prepared. CanApply c prepared };
 
-    ghost after = { λ c prepared. CoordMachine (patched c prepared.patch) };
+    ghost after = { λ c prepared. CoordMachine (after c prepared) };
 
     fn prepare(&mut self, own: &CoordEvent) -> Result<(fal_coord::Prepared, Outputs), Refuse> {
         let mut prepared = self.ready(own)?;

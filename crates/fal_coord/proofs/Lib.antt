@@ -1,4 +1,10 @@
 pub mod Counts
+pub mod Deciding
+pub mod Drafts
 pub mod InTrees
+pub mod Known
 pub mod Reading
+pub mod Sent
+pub mod Sound
+pub mod Starting
 pub mod Within

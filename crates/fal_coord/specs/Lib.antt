@@ -1,5 +1,14 @@
+pub mod Begin
+pub mod Decide
 pub mod Decided
+pub mod Hear
 pub mod Judged
+pub mod Known
+pub mod Nodes
+pub mod Onward
+pub mod Patch
+pub mod Ready
+pub mod Sound
 pub mod State
 pub mod Step
-pub mod Patch
+pub mod Walks

@@ -1,79 +1,109 @@
-ghost use Rattle.std.specs.Prelude.{◌≡◌, ◌≤◌, ◌↔◌, IfOk, IsErrOf, IsNone, is_some};
-ghost use Rattle.fal_base.specs.declared.refuse.Refuse.TheVariants as Refuse;
+ghost use Rattle.std.specs.Prelude.{◌≡◌, ◌≤◌, is_some};
 ghost use Rattle.fal_coord.specs.declared.event.CoordEvent.TheVariants as CoordEvent;
-ghost use Rattle.fal_coord.specs.State.{opening_coord, is_quiet};
+ghost use Rattle.fal_coord.specs.State.{opening_coord, is_quiet, is_idle as is_idle_stage};
 ghost use Rattle.fal_coord.specs.Step.{coord_step};
-ghost use Rattle.fal_coord.specs.Patch.{IsStepFor, patched};
 
-use crate::event::CoordEvent;
-use crate::patch::{Patch, Prepared};
-use fal_base::{CallRec, Refuse};
+use crate::current::Current;
+use crate::stage::Stage;
+use fal_base::{CallRec, Mark};
+use fal_dentry::Replica;
+use fal_place::Table;
 use std::alloc::Global;
 use std::marker::Model;
 
-/// The coordinator of a cluster: how many nodes there are, and the calls that wait for it to begin with them.
+/// The coordinator of a cluster, with room for some more directories and calls than it has. It carries out chmod and chown of directories,
+/// rmdir and rename, one after the other.
 #[derive(Debug, Drop)]
 pub struct Coord {
-    nodes: u8,
-    waiting: Vec<CallRec>,
+    pub(crate) alloc: Global,
+    pub(crate) table: Table,
+    pub(crate) replica: Replica,
+    pub(crate) waiting: Vec<CallRec>,
+    pub(crate) last: Vec<(u8, Mark)>,
+    pub(crate) operation: u32,
+    pub(crate) asked: u64,
+    pub(crate) stage: Current,
 }
 
 impl Model for Coord {
-    ghost use Rattle.fal_coord.specs.State.{CoordState};
+    ghost use Rattle.std.specs.Prelude.{◌-◌, vec_len, vec_capacity};
+    ghost use Rattle.fal_coord.specs.Patch.{SeenCoord};
+    ghost use Rattle.fal_coord.specs.Sound.{IsSound};
 
-    ghost Value = { CoordState };
+    ghost Value = { SeenCoord };
 
-    ghost view = { λ c. record { nodes = c.nodes; waiting = c.waiting.items } };
+    ghost view = { λ c. record {
+      state = record {
+        table = c.table;
+        replica = c.replica.entries;
+        waiting = c.waiting.items;
+        last = c.last.items;
+        operation = c.operation;
+        asked = c.asked;
+        stage = c.stage;
+      };
+      room = record {
+        replica = c.replica.spare;
+        waiting = vec_capacity c.waiting - vec_len c.waiting;
+        last = vec_capacity c.last - vec_len c.last;
+      };
+    } };
+
+    ghost invariant = { λ c. IsSound c.waiting.items c.stage };
+}
+
+// Whether no operation is under way.
+fn is_idle(stage: &Stage) -> bool
+    ensures { result ≡ is_idle_stage stage.now }
+{
+    match stage {
+        Stage::Idle => true,
+        _ => false,
+    }
 }
 
 impl Coord {
     /// The coordinator of a cluster with 1 to 16 nodes, before its first event. Takes no memory.
+    #[tactic(auto, unfolding(crate::specs::State::opening_coord))]
     pub fn new(alloc: Global, nodes: u8) -> Coord
         requires some { 1 ≤ nodes }
         requires few { nodes ≤ 16 }
-        ensures { result ≡ opening_coord nodes }
+        ensures { result.state ≡ opening_coord nodes }
     {
         Coord {
-            nodes,
+            alloc,
+            table: Table::new(alloc, nodes),
+            replica: Replica::new(alloc),
             waiting: Vec::new(alloc),
+            last: Vec::new(alloc),
+            operation: 0,
+            asked: 0,
+            stage: Current::idle(),
         }
     }
 
-    /// Prepares the step of an event. Nothing of the coordinator changes.
-    ///
-    /// Refused with `NotEnabled` exactly where the event may not happen now, which is always: no operation needs the coordinator yet.
-    pub fn ready(&mut self, event: &CoordEvent) -> Result<Prepared, Refuse>
-        ensures same { self.new ≡ self.old }
-        ensures ok { IfOk result (λ prepared. IsStepFor self.old event.now prepared) }
-        ensures refused { IsErrOf result Refuse.NotEnabled ↔ IsNone (coord_step self.old event.now) }
+    /// Where keys live, as the coordinator knows. Takes no memory.
+    pub fn table(&self) -> &Table
+        ensures { result.now ≡ self.now.state.table }
     {
-        match event {
-            CoordEvent::Hear(_) => Err(Refuse::NotEnabled),
-            CoordEvent::Start => Err(Refuse::NotEnabled),
-        }
-    }
-
-    /// Lays a prepared step on. Takes no memory and can't fail. After the coordinator's own last `ready` it is that event's step.
-    #[tactic(auto, unfolding(crate::specs::Patch::patched))]
-    pub fn apply(&mut self, prepared: Prepared)
-        ensures { self.new ≡ patched self.old prepared.patch }
-    {
-        match prepared.patch {
-            Patch::Nothing => {}
-        }
+        &self.table
     }
 
     /// Whether Start is enabled. Takes no memory.
+    #[tactic(auto, unfolding(crate::specs::Step::coord_step))]
     pub fn can_start(&self) -> bool
-        ensures { result ≡ is_some (coord_step self.now CoordEvent.Start) }
+        ensures { result ≡ is_some (coord_step self.now.state CoordEvent.Start) }
     {
-        false
+        match self.stage.stage() {
+            Stage::Idle => !self.waiting.is_empty(),
+            _ => false,
+        }
     }
 
     /// Whether no call waits and no operation is under way. Takes no memory.
     pub fn quiet(&self) -> bool
-        ensures { result ≡ is_quiet self.now }
+        ensures { result ≡ is_quiet self.now.state }
     {
-        self.waiting.is_empty()
+        self.waiting.is_empty() && is_idle(self.stage.stage())
     }
 }

@@ -2,5 +2,7 @@
 #![tactic(auto)]
 
 mod fetch;
+mod operation;
 
 pub use fetch::fetched;
+pub use operation::{counted, locked, mine};

@@ -10,7 +10,7 @@ use Rattle.fal_node.specs.declared.patch.Patch.{Patch}
 use Rattle.fal_node.specs.declared.patch.Patch.TheVariants as patch
 use Rattle.fal_node.specs.State.{NodeState, with_item}
 use Rattle.fal_node.specs.Letters.{Work}
-use Rattle.fal_node.specs.Deliver.{admitted, without_calls}
+use Rattle.fal_node.specs.Deliver.{admitted, with_operation, without_calls}
 use Rattle.fal_node.specs.Gather.{with_fetches, with_waiting, batched, with_batch}
 use Rattle.fal_node.specs.Exec.{with_executed}
 use Rattle.fal_node.specs.Patch.{patched, with_rows}
@@ -45,11 +45,11 @@ can_batch node fetches tickets [] keys below open_keys rows = tt
 can_batch node fetches tickets (c ∷ cs) keys below open_keys rows = record { number = below; open_keys = open_keys; row_calls = rows }
 
 pub can_change : (node : NodeState) (work : Work) (p : Patch) → work.node ≡ patched node p → IsWithin work → CanDraft node p → CanChange node p
-unfolding with_item with_rows with_executed
+unfolding with_item with_operation with_rows with_executed
 can_change node work patch.Nothing same within can = tt
 can_change node work (patch.Admit call) same within can =
     (subst (λ k. k < 2 ^ 64) (ap (λ (n : NodeState). n.waiting.tickets) same ∙ tickets-admitted node call can.0) within.tickets, can.1)
-can_change node work (patch.Keep message) same within can = subst (λ (n : NodeState). n.items_numbered < 2 ^ 64) same within.items
+can_change node work (patch.Keep operation message) same within can = subst (λ (n : NodeState). n.items_numbered < 2 ^ 64) same within.items
 can_change node work (patch.Learn fetch key dentry) same within can = tt
 can_change node work (patch.Dismiss fetch tickets) same within can = tt
 can_change node work (patch.Gather fetches tickets calls keys) same within can =
@@ -59,3 +59,5 @@ can_change node work (patch.Gather fetches tickets calls keys) same within can =
 can_change node work (patch.Execute batch changes drawn) same within can = can
 can_change node work (patch.Release batch) same within can = tt
 can_change node work (patch.Serve item) same within can = tt
+can_change node work (patch.Shut item operation keys) same within can = can
+can_change node work (patch.Reopen operation updates) same within can = tt

@@ -1,4 +1,5 @@
 mod Pushed
+mod Shutting
 mod Runs
 mod Steps
 mod Sound

@@ -1,17 +1,23 @@
 -- An envelope comes to a node.
-use Rattle.std.specs.Prelude.{ℕ, List, [], ◌∷◌, ◌++◌, Option, None, Some, Result, Ok, Err, is_some, if◌then◌else◌}
+use Rattle.std.specs.Prelude.{ℕ, List, [], ◌∷◌, ◌++◌, Option, None, Some, Result, Ok, Err, is_some, nat_lt, if◌then◌else◌}
 use Rattle.fal_base.specs.declared.call.CallRec.{CallRec}
 use Rattle.fal_base.specs.declared.event.Envelope.{Envelope}
-use Rattle.fal_base.specs.declared.event.Point.TheVariants.{Carried}
+use Rattle.fal_base.specs.declared.event.Actor.TheVariants.{Coord}
+use Rattle.fal_base.specs.declared.event.Point.TheVariants.{Here, Carried}
 use Rattle.fal_base.specs.declared.inode.Dentry.{Dentry}
 use Rattle.fal_base.specs.declared.key.Key.{Key}
 use Rattle.fal_base.specs.declared.reply.Errno.{Errno}
 use Rattle.fal_base.specs.declared.reply.Errno.TheVariants.{Enoent, Enotdir}
 use Rattle.fal_base.specs.declared.reply.Reply.TheVariants.{Fail}
+use Rattle.fal_base.specs.declared.row.Update.{Update}
 use Rattle.fal_base.specs.Maps.{with_value}
+use Rattle.fal_base.specs.Updates.{laid}
+use Rattle.fal_duty.specs.Duties.{owned, count_told}
 use Rattle.fal_exec.specs.RowCall.{row_names}
+use Rattle.fal_locks.specs.Locks.{without_shut}
 use Rattle.fal_wait.specs.declared.pending_fetch.PendingFetch.{PendingFetch}
 use Rattle.fal_wait.specs.Waiting.{WaitList, call_with_ticket, fetch_of, after_admit, after_settle, without_call}
+use Rattle.fal_wire.specs.Letters.{letter, reply_letter}
 use Rattle.fal_wire.specs.declared.fault.WireFault.{WireFault}
 use Rattle.fal_wire.specs.declared.message.Found.{Found}
 use Rattle.fal_wire.specs.declared.message.Found.TheVariants as found
@@ -19,9 +25,8 @@ use Rattle.fal_wire.specs.declared.message.Message.{Message}
 use Rattle.fal_wire.specs.declared.message.Message.TheVariants as message
 use Rattle.fal_wire.specs.Messages.{reading}
 use Rattle.fal_wire.specs.declared.letter.Letter.{Letter}
-use Rattle.fal_node.specs.State.{NodeState, with_item}
+use Rattle.fal_node.specs.State.{NodeState, with_item, is_of}
 use Rattle.fal_node.specs.Letters.{Work, begun, is_asker}
-use Rattle.fal_run.specs.Letters.{reply_letter}
 
 -- the call is admitted
 unfoldable pub admitted : NodeState → CallRec → NodeState
@@ -76,6 +81,34 @@ abbrev pub settle_pending : NodeState → ℕ → Key → Found → Option Pendi
 settle_pending node point key what None = begun node
 settle_pending node point key what (Some fetch) = settle node point key what fetch
 
+-- ---- operations of the coordinator
+
+-- the operation is the last that was taken, and its record is kept, to be served later
+unfoldable pub with_operation : NodeState → ℕ → Message → NodeState
+with_operation node operation message = record (with_item node message) { last_operation = operation }
+
+-- one that is not newer than the last changes nothing
+abbrev pub take_operation : NodeState → ℕ → Message → NodeState
+take_operation node operation message = if nat_lt node.last_operation operation then with_operation node operation message else node
+
+-- the coordinator is told how many entries the directory has here, where the keys are shut by this operation
+abbrev pub take_count : NodeState → ℕ → ℕ → Work
+take_count node operation dir =
+    if is_of node.locks.shut operation then record (begun node) { sent = letter Coord (Here 0) (count_told node.rows node.number operation dir) ∷ [] } else begun node
+
+-- the updates are laid on the rows, and the operation has no key shut any more
+unfoldable pub reopened : NodeState → ℕ → List Update → NodeState
+reopened node operation updates = record node { rows = laid updates node.rows; locks = without_shut node.locks operation }
+
+-- the updates of the keys that live here are laid, the keys are opened, and the coordinator is told, where they are shut by this operation
+abbrev pub take_commit : NodeState → ℕ → List Update → Work
+take_commit node operation updates =
+    if is_of node.locks.shut operation then
+    record { node = reopened node operation (owned node.table node.number updates); sent = letter Coord (Here 0) (message.Done operation node.number) ∷ []; notes = [] }
+    else begun node
+
+-- ---- any record
+
 -- by the kind of the record
 abbrev pub take_message : NodeState → ℕ → Message → Work
 take_message node point (message.Call call) = begun (take_call node call)
@@ -86,11 +119,11 @@ take_message node point (message.Stale id old new changes) = begun node
 take_message node point (message.Opened id dir) = begun node
 take_message node point (message.ListAsk id version dir) = begun node
 take_message node point (message.ListPart id from names) = begun node
-take_message node point (message.Lock op keys) = begun node
+take_message node point (message.Lock op keys) = begun (take_operation node op (message.Lock op keys))
 take_message node point (message.Locked op from rows) = begun node
-take_message node point (message.Count op dir) = begun node
+take_message node point (message.Count op dir) = take_count node op dir
 take_message node point (message.Counted op from number) = begun node
-take_message node point (message.Commit op updates) = begun node
+take_message node point (message.Commit op updates) = take_commit node op updates
 take_message node point (message.Done op from) = begun node
 take_message node point (message.Block op name) = begun node
 take_message node point (message.Blocked op from rows) = begun node

@@ -15,7 +15,8 @@ use Rattle.fal_node.specs.State.{NodeState}
 use Rattle.fal_wire.specs.Letters.{output_of}
 use Rattle.fal_node.specs.Letters.{Work}
 use Rattle.fal_node.specs.Step.{node_step}
-use Rattle.fal_node.specs.Patch.{NodeRoom, SeenNode, patched, puts_in}
+use Rattle.fal_node.specs.Patch.{NodeRoom, SeenNode, patched, puts_in, rows_put}
+use Rattle.fal_node.specs.Serve.{can_shut}
 use Rattle.fal_run.specs.Calls.{is_row_op, are_row_calls}
 
 -- each fetch's waiters are free when it is opened
@@ -44,23 +45,30 @@ abbrev pub CanHaveBatch : NodeState → List BatchCall → List Key → Type 0
 CanHaveBatch node [] keys = Unit {0}
 CanHaveBatch node (call ∷ calls) keys = CanBatch node (call ∷ calls) keys
 
+-- there is room to shut the keys
+pub record HasRoomToShut (room : NodeRoom) (keys : List Key) : Type 0 where
+  pub operation : 1 ≤ room.locks
+  pub shut_keys : length keys ≤ room.locks
+
 -- there is room for the change
 abbrev pub HasRoom : NodeRoom → Patch → Type 0
 HasRoom room patch.Nothing = Unit {0}
 HasRoom room (patch.Admit call) = 1 ≤ room.waiting
-HasRoom room (patch.Keep message) = 1 ≤ room.items
+HasRoom room (patch.Keep operation message) = 1 ≤ room.items
 HasRoom room (patch.Learn fetch key dentry) = 1 ≤ room.replica
 HasRoom room (patch.Dismiss fetch tickets) = Unit {0}
 HasRoom room (patch.Gather fetches tickets calls keys) = (length fetches.items ≤ room.waiting) × HasRoomForBatch room calls keys.items
 HasRoom room (patch.Execute batch changes drawn) = puts_in changes.items ≤ room.rows
 HasRoom room (patch.Release batch) = Unit {0}
 HasRoom room (patch.Serve item) = Unit {0}
+HasRoom room (patch.Shut item operation keys) = HasRoomToShut room keys.items
+HasRoom room (patch.Reopen operation updates) = rows_put updates.items ≤ room.rows
 
 -- the change suits the node, and takes no counter past the end of its type
 abbrev pub CanChange : NodeState → Patch → Type 0
 CanChange node patch.Nothing = Unit {0}
 CanChange node (patch.Admit call) = (node.waiting.tickets + 1 < 2 ^ 64) × IsTrue (is_row_op call.op)
-CanChange node (patch.Keep message) = node.items_numbered + 1 < 2 ^ 64
+CanChange node (patch.Keep operation message) = node.items_numbered + 1 < 2 ^ 64
 CanChange node (patch.Learn fetch key dentry) = Unit {0}
 CanChange node (patch.Dismiss fetch tickets) = Unit {0}
 CanChange node (patch.Gather fetches tickets calls keys) =
@@ -68,6 +76,8 @@ CanChange node (patch.Gather fetches tickets calls keys) =
 CanChange node (patch.Execute batch changes drawn) = node.drawn + drawn < 2 ^ 64
 CanChange node (patch.Release batch) = Unit {0}
 CanChange node (patch.Serve item) = Unit {0}
+CanChange node (patch.Shut item operation keys) = IsTrue (can_shut node.locks keys.items)
+CanChange node (patch.Reopen operation updates) = Unit {0}
 
 abbrev pub CanPatch : SeenNode → Patch → Type 0
 CanPatch s patch = HasRoom s.room patch × CanChange s.state patch
@@ -118,4 +128,5 @@ abbrev pub CanDraft : NodeState → Patch → Type 0
 CanDraft node (patch.Admit call) = IsTrue (is_new node.waiting call) × IsTrue (is_row_op call.op)
 CanDraft node (patch.Gather fetches tickets calls keys) = CanGather node (patch.Gather fetches tickets calls keys)
 CanDraft node (patch.Execute batch changes drawn) = node.drawn + drawn < 2 ^ 64
+CanDraft node (patch.Shut item operation keys) = IsTrue (can_shut node.locks keys.items)
 CanDraft node other = Unit {0}

@@ -1,14 +1,17 @@
 -- An item is served: a record that the node has kept until it can.
-use Rattle.std.specs.Prelude.{ℕ, Bool, false, not, ◌&&◌, ◌||◌, [], ◌∷◌, Option, None, Some, ◌==◌, if◌then◌else◌}
-use Rattle.fal_base.specs.declared.event.Actor.TheVariants.{Node}
+use Rattle.std.specs.Prelude.{ℕ, Bool, false, not, ◌&&◌, ◌||◌, List, [], ◌∷◌, Option, None, Some, is_some, ◌==◌, if◌then◌else◌}
+use Rattle.std.specs.List.{list_any}
+use Rattle.fal_base.specs.declared.event.Actor.TheVariants.{Node, Coord}
 use Rattle.fal_base.specs.declared.event.Point.TheVariants.{Here}
 use Rattle.fal_base.specs.declared.key.Key.{Key}
 use Rattle.fal_place.specs.Placement.{owner}
-use Rattle.fal_locks.specs.Locks.{is_shut}
+use Rattle.fal_dentry.specs.Walk.{without_keys}
+use Rattle.fal_locks.specs.Locks.{LockTable, is_shut, is_held, with_shut}
+use Rattle.fal_wait.specs.Waiting.{after_cancel}
 use Rattle.fal_wire.specs.declared.message.Message.{Message}
 use Rattle.fal_wire.specs.declared.message.Message.TheVariants as message
 use Rattle.fal_batch.specs.Fate.{bars}
-use Rattle.fal_duty.specs.Duties.{fetched_of}
+use Rattle.fal_duty.specs.Duties.{fetched_of, locked_of}
 use Rattle.fal_node.specs.declared.item.Item.{Item}
 use Rattle.fal_wire.specs.declared.letter.Letter.{Letter}
 use Rattle.fal_node.specs.State.{NodeState, blocked_names, without_item}
@@ -40,6 +43,28 @@ fetch_letter node asker number key =
 abbrev pub fetch_service : NodeState → ℕ → ℕ → Key → Service
 fetch_service node asker number key = record { can = can_tell node key; work = record (begun node) { sent = fetch_letter node asker number key ∷ [] } }
 
+-- ---- a Lock
+
+-- it is served where no batch holds one of the keys, and nothing is shut
+abbrev pub can_shut : LockTable → List Key → Bool
+can_shut locks keys = not (is_some locks.shut) && not (list_any (λ key. is_held locks key) keys)
+
+-- the keys are shut by the operation; they leave the replica, and no fetch is pending any more: every waiting call is free
+unfoldable pub shutting : NodeState → ℕ → List Key → NodeState
+shutting node operation keys =
+    record node {
+      replica = without_keys node.replica keys;
+      waiting = after_cancel node.waiting;
+      locks = with_shut node.locks operation keys;
+    }
+
+-- the coordinator is told what stands here under the keys
+abbrev pub lock_service : NodeState → ℕ → List Key → Service
+lock_service node operation keys = record {
+  can = can_shut node.locks keys;
+  work = record { node = shutting node operation keys; sent = letter Coord (Here 0) (locked_of node.table node.rows node.number operation keys) ∷ []; notes = [] };
+}
+
 -- ---- any item
 
 -- a record that is no item is never served
@@ -49,6 +74,7 @@ no_service node = record { can = false; work = begun node }
 -- by the kind of the record
 abbrev pub service_of : NodeState → Message → Service
 service_of node (message.FetchAsk asker number key) = fetch_service node asker number key
+service_of node (message.Lock operation keys) = lock_service node operation keys
 service_of node other = no_service node
 
 -- whether the condition of the item holds

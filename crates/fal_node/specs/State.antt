@@ -1,11 +1,12 @@
 -- What a node is.
-use Rattle.std.specs.Prelude.{ℕ, ◌+◌, List, [], ◌∷◌, ◌++◌, Option, Some, None, ◌==◌, if◌then◌else◌}
+use Rattle.std.specs.Prelude.{ℕ, ◌+◌, Bool, false, List, [], ◌∷◌, ◌++◌, Option, Some, None, ◌==◌, if◌then◌else◌}
 use Rattle.std.specs.List.{find}
 use Rattle.fal_base.specs.declared.barred.Barred.{Barred}
 use Rattle.fal_base.specs.declared.barred.Barred.TheVariants.{Nothing}
 use Rattle.fal_base.specs.Tree.{Tree, tree0}
 use Rattle.fal_place.specs.Placement.{Placement, opening_table}
 use Rattle.fal_dentry.specs.Walk.{Dentries}
+use Rattle.fal_locks.specs.declared.holder.Shut.{Shut}
 use Rattle.fal_locks.specs.Locks.{LockTable, no_locks, without_holder}
 use Rattle.fal_wait.specs.Lists.{without_first}
 use Rattle.fal_wait.specs.Waiting.{WaitList, no_calls}
@@ -68,6 +69,11 @@ batch_of node number = find (λ batch. batch.number == number) node.batches
 -- the item with this number
 abbrev pub item_of : NodeState → ℕ → Option Item
 item_of node number = find (λ item. item.number == number) node.items
+
+-- whether this operation has shut the keys
+abbrev pub is_of : Option Shut → ℕ → Bool
+is_of None operation = false
+is_of (Some shut) operation = shut.op == operation
 
 -- one more item, with the next number
 unfoldable pub with_item : NodeState → Message → NodeState

@@ -13,6 +13,7 @@ ghost use Rattle.fal_node.specs.Ready.{Does, DoesOf, CanDraft};
 
 use crate::draft::{Draft, quiet_draft};
 use crate::node::Node;
+use crate::operation::{take_commit, take_count, take_operation};
 use crate::patch::Patch;
 use crate::settle::take_found;
 use fal_base::{Actor, CallRec, Envelope, Key, Op, OutOfMemory};
@@ -27,7 +28,7 @@ fn is_row_op(op: &Op) -> bool
 }
 
 // Nothing changes.
-fn nothing(node: &Node) -> Draft
+pub(crate) fn nothing(node: &Node) -> Draft
     ensures does { Does node.now.state (begun node.now.state) result }
     ensures can { CanDraft node.now.state result.patch }
 {
@@ -40,7 +41,7 @@ fn discard_call(call: CallRec) {
 }
 
 // Lets the message go.
-fn discard_message(message: Message) {
+pub(crate) fn discard_message(message: Message) {
     let _message = message;
 }
 
@@ -58,12 +59,19 @@ fn take_call(node: &Node, call: CallRec) -> Draft
     }
 }
 
-// A record comes that is served later.
+// A record comes that is served later, and is of no operation.
+#[tactic(auto, unfolding(crate::specs::State::with_item, crate::specs::Deliver::with_operation))]
 fn keep(node: &Node, message: Message) -> Draft
     ensures does { Does node.now.state (begun (with_item node.now.state message)) result }
     ensures can { CanDraft node.now.state result.patch }
 {
-    quiet_draft(node.alloc, Patch::Keep(message))
+    quiet_draft(
+        node.alloc,
+        Patch::Keep {
+            operation: node.last_operation,
+            message,
+        },
+    )
 }
 
 // Whether someone has this number: a node that is there, or the coordinator.
@@ -87,7 +95,7 @@ fn take_question(node: &Node, asker: u8, number: u64, key: Key) -> Draft
     }
 }
 
-// A message comes. One of a kind that is not for nodes changes nothing.
+// A message comes. One of any other kind than these changes nothing.
 fn take_message(node: &Node, point: u64, message: Message) -> Result<Draft, OutOfMemory>
     ensures does { IfOk result (λ draft. Does node.now.state (take_message_of node.now.state point message) draft) }
     ensures can { IfOk result (λ draft. CanDraft node.now.state draft.patch) }
@@ -96,6 +104,9 @@ fn take_message(node: &Node, point: u64, message: Message) -> Result<Draft, OutO
         Message::Call(call) => Ok(take_call(node, call)),
         Message::FetchAsk { asker, number, key } => Ok(take_question(node, asker, number, key)),
         Message::FetchGot { number, key, found } => take_found(node, number, point, key, found),
+        Message::Lock { op, keys } => Ok(take_operation(node, op, Message::Lock { op, keys })),
+        Message::Count { op, dir } => take_count(node, op, dir),
+        Message::Commit { op, updates } => take_commit(node, op, updates.as_slice()),
         other => {
             discard_message(other);
             Ok(nothing(node))

@@ -26,7 +26,8 @@ pub(crate) fn quiet_draft(alloc: Global, patch: Patch) -> Draft
     }
 }
 
-fn letters_of_one(alloc: Global, letter: Letter) -> Result<Vec<Letter>, OutOfMemory>
+// The letter alone.
+pub(crate) fn letters_of_one(alloc: Global, letter: Letter) -> Result<Vec<Letter>, OutOfMemory>
     ensures { IfOk result (λ letters. letters.items ≡ letter ∷ []) }
 {
     let mut letters = Vec::new(alloc);
@@ -34,20 +35,15 @@ fn letters_of_one(alloc: Global, letter: Letter) -> Result<Vec<Letter>, OutOfMem
     Ok(letters)
 }
 
-// A draft that sends one letter.
-pub(crate) fn draft_of_one(
-    alloc: Global,
-    patch: Patch,
-    letter: Letter,
-) -> Result<Draft, OutOfMemory>
-    ensures patch { IfOk result (λ draft. draft.patch ≡ patch) }
-    ensures letters { IfOk result (λ draft. draft.letters.items ≡ letter ∷ []) }
-    ensures notes { IfOk result (λ draft. draft.notes.items ≡ []) }
+// A draft that sends these letters.
+pub(crate) fn sending_draft(alloc: Global, patch: Patch, letters: Vec<Letter>) -> Draft
+    ensures patch { result.patch ≡ patch }
+    ensures letters { result.letters.items ≡ letters.items }
+    ensures notes { result.notes.items ≡ [] }
 {
-    let letters = letters_of_one(alloc, letter)?;
-    Ok(Draft {
+    Draft {
         patch,
         letters,
         notes: Vec::new(alloc),
-    })
+    }
 }

@@ -14,12 +14,15 @@ mod exec;
 mod gather;
 mod item;
 mod law;
+mod lock;
 mod node;
+mod operation;
 mod patch;
 mod ready;
 mod room;
 mod serve;
 mod settle;
+mod shut;
 
 pub use batch::Batch;
 pub use blocking::Blocking;

@@ -1,6 +1,6 @@
 ghost use Rattle.std.specs.Prelude.{◌≡◌, []};
 
-use fal_base::{CallRec, Dentry, Items, Key, NoteList, OutputList, Outputs};
+use fal_base::{CallRec, Dentry, Items, Key, NoteList, OutputList, Outputs, Update};
 use fal_batch::Wanted;
 use fal_run::{BatchCall, RowChange};
 use fal_wire::Message;
@@ -12,7 +12,11 @@ use std::mem;
 pub enum Patch {
     Nothing,
     Admit(CallRec),
-    Keep(Message),
+    /// A record is kept, to be served later, and this is the last operation that was taken.
+    Keep {
+        operation: u32,
+        message: Message,
+    },
     /// The fetch is settled, and the directory is learned.
     Learn {
         fetch: u64,
@@ -39,6 +43,17 @@ pub enum Patch {
     },
     Release(u64),
     Serve(u64),
+    /// An operation shuts keys, and the item is served.
+    Shut {
+        item: u64,
+        operation: u32,
+        keys: Vec<Key>,
+    },
+    /// Updates are laid on the rows, and the operation's keys are opened.
+    Reopen {
+        operation: u32,
+        updates: Vec<Update>,
+    },
 }
 
 /// A step that a node is ready to make, with the records and notes that it makes.

@@ -11,8 +11,9 @@ ghost use Rattle.fal_node.specs.Ready.{DoesOf, CanDraft};
 
 use crate::batch::Batch;
 use crate::blocking::blocked_names;
-use crate::draft::{Draft, draft_of_one, quiet_draft};
+use crate::draft::{Draft, letters_of_one, quiet_draft, sending_draft};
 use crate::item::Item;
+use crate::lock::{can_shut, serve_lock};
 use crate::node::Node;
 use crate::patch::Patch;
 use fal_base::{Actor, Barred, Duplicate, Key, Name, OutOfMemory, Point};
@@ -111,8 +112,8 @@ fn serve_fetch(
         return Ok(None);
     }
     let letter = fetch_letter(node, asker, number, key)?;
-    let draft = draft_of_one(node.alloc, Patch::Serve(item), letter)?;
-    Ok(Some(draft))
+    let letters = letters_of_one(node.alloc, letter)?;
+    Ok(Some(sending_draft(node.alloc, Patch::Serve(item), letters)))
 }
 
 // Whether the condition of an item with this record holds, by the kind of the record.
@@ -121,6 +122,7 @@ pub(crate) fn can_serve(node: &Node, message: &Message) -> bool
 {
     match message {
         Message::FetchAsk { key, .. } => can_tell(node, key),
+        Message::Lock { keys, .. } => can_shut(&node.locks, keys.as_slice()),
         _ => false,
     }
 }
@@ -136,6 +138,7 @@ fn serve_item(node: &Node, item: &Item) -> Result<Option<Draft>, OutOfMemory>
         Message::FetchAsk { asker, number, key } => {
             serve_fetch(node, item.number, *asker, *number, key)
         }
+        Message::Lock { op, keys } => serve_lock(node, item.number, *op, keys),
         _ => Ok(None),
     }
 }

@@ -2,7 +2,7 @@
 
 ghost use Rattle.std.specs.Prelude.{◌≡◌, ◌++◌, IfOk, OnOk};
 ghost use Rattle.fal_wait.specs.Waiting.{call_with_ticket, fetch_of};
-ghost use Rattle.fal_run.specs.Letters.{reply_letter};
+ghost use Rattle.fal_wire.specs.Letters.{reply_letter};
 ghost use Rattle.fal_node.specs.Deliver.{refusal, refusals as refusals_of, refuse as refuse_of, settle as settle_of, settle_pending};
 ghost use Rattle.fal_node.specs.Ready.{Does, CanDraft};
 

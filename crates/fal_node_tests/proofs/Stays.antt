@@ -1,5 +1,5 @@
 -- Whatever comes to a young node stays within the ranges, and leaves it young.
-use Rattle.std.proofs.Common.{◌≡◌, ℕ, ◌+◌, ◌≤◌, Bool, true, false, cond, [], Option, Some, None, Result, Ok, Err, is_some, ◌==◌, ◌<◌, ◌^◌, refl, sym, ap, subst, arith}
+use Rattle.std.proofs.Common.{◌≡◌, ℕ, ◌+◌, ◌≤◌, Bool, true, false, cond, [], Option, Some, None, Result, Ok, Err, is_some, ◌==◌, ◌<◌, nat_lt, ◌∷◌, ◌^◌, refl, sym, ap, subst, arith}
 use Rattle.std.specs.List.{All, find}
 use Rattle.fal_base.specs.declared.call.CallRec.{CallRec}
 use Rattle.fal_base.specs.declared.event.Envelope.{Envelope}
@@ -14,13 +14,17 @@ use Rattle.fal_node.specs.declared.event.NodeEvent.{NodeEvent}
 use Rattle.fal_node.specs.declared.event.NodeEvent.TheVariants.{Deliver, Gather, Exec, Release, Serve}
 use Rattle.fal_wire.specs.declared.letter.Letter.{Letter}
 use Rattle.fal_node.specs.declared.patch.Prepared.{Prepared}
-use Rattle.fal_node.specs.State.{NodeState, opening_node, with_item}
+use Rattle.fal_node.specs.State.{NodeState, opening_node, with_item, is_of}
 use Rattle.fal_node.specs.Letters.{Work, begun, is_asker}
 use Rattle.fal_run.specs.Letters.{commits_in}
-use Rattle.fal_node.specs.Deliver.{admitted, take_call, settle_pending, take_message, take_read, delivered}
+use Rattle.fal_node.specs.Deliver.{admitted, take_call, settle_pending, with_operation, take_operation, reopened, take_message, take_read, delivered}
 use Rattle.fal_node.specs.Patch.{SeenNode}
 use Rattle.fal_node.specs.Ready.{after, IsStepOf, IsStepFor}
 use Rattle.fal_node.specs.Step.{IsWithin, StaysWithin, is_to_node, only_if, node_step}
+use Rattle.fal_base.specs.declared.event.Actor.TheVariants.{Coord}
+use Rattle.fal_base.specs.declared.event.Point.TheVariants.{Here}
+use Rattle.fal_duty.specs.Duties.{owned, count_told}
+use Rattle.fal_wire.specs.Letters.{letter}
 use Rattle.fal_node_tests.specs.Young.{IsYoung, IsDelivery}
 
 -- nothing is sent or noted, and the node is young
@@ -31,13 +35,13 @@ record IsQuiet (n : ℕ) (work : Work) : Type 0 where
 
 pub young_opening : (number nodes limit : ℕ) → number ≤ 15 → IsYoung 0 (opening_node number nodes limit)
 unfolding opening_node
-young_opening number nodes limit small = record { number = small; fetches = refl; opened = refl; batches = refl; drawn = refl; tickets = omega arith; items = omega arith }
+young_opening number nodes limit small = record { number = small; fetches = refl; opened = refl; batches = refl; drawn = refl; shut = refl; tickets = omega arith; items = omega arith }
 
 pub older : (n m : ℕ) (node : NodeState) → n ≤ m → IsYoung n node → IsYoung m node
 older n m node le young =
     let tickets = young.tickets in
     let items = young.items in
-    record { number = young.number; fetches = young.fetches; opened = young.opened; batches = young.batches; drawn = young.drawn; tickets = omega arith; items = omega arith }
+    record { number = young.number; fetches = young.fetches; opened = young.opened; batches = young.batches; drawn = young.drawn; shut = young.shut; tickets = omega arith; items = omega arith }
 
 same_quiet : (n : ℕ) (node : NodeState) → IsYoung n node → IsQuiet (n + 1) (begun node)
 same_quiet n node young = record { node = older n (n + 1) node (omega arith) young; sent = refl; notes = refl }
@@ -48,8 +52,8 @@ young_admitted n node call young =
     let tickets = young.tickets in
     let items = young.items in
     elim (is_new node.waiting call) as (λ b. IsYoung (n + 1) (record node { waiting = cond b (with_call node.waiting call) node.waiting })) [
-      | true ↦ record { number = young.number; fetches = young.fetches; opened = young.opened; batches = young.batches; drawn = young.drawn; tickets = omega arith; items = omega arith }
-      | false ↦ record { number = young.number; fetches = young.fetches; opened = young.opened; batches = young.batches; drawn = young.drawn; tickets = omega arith; items = omega arith }
+      | true ↦ record { number = young.number; fetches = young.fetches; opened = young.opened; batches = young.batches; drawn = young.drawn; shut = young.shut; tickets = omega arith; items = omega arith }
+      | false ↦ record { number = young.number; fetches = young.fetches; opened = young.opened; batches = young.batches; drawn = young.drawn; shut = young.shut; tickets = omega arith; items = omega arith }
     ]
 
 quiet_call : (n : ℕ) (node : NodeState) (call : CallRec) → IsYoung n node → IsQuiet (n + 1) (begun (take_call node call))
@@ -65,10 +69,33 @@ quiet_item n node m young =
     let tickets = young.tickets in
     let items = young.items in
     record {
-      node = record { number = young.number; fetches = young.fetches; opened = young.opened; batches = young.batches; drawn = young.drawn; tickets = omega arith; items = omega arith };
+      node = record { number = young.number; fetches = young.fetches; opened = young.opened; batches = young.batches; drawn = young.drawn; shut = young.shut; tickets = omega arith; items = omega arith };
       sent = refl;
       notes = refl;
     }
+
+-- an operation that is not newer than the last changes nothing
+quiet_operation : (n : ℕ) (node : NodeState) (operation : ℕ) (m : Message) → IsYoung n node → IsQuiet (n + 1) (begun (take_operation node operation m))
+unfolding with_item with_operation
+quiet_operation n node operation m young =
+    let tickets = young.tickets in
+    let items = young.items in
+    elim (nat_lt node.last_operation operation) as (λ b. IsQuiet (n + 1) (begun (cond b (with_operation node operation m) node))) [
+      | true ↦ record {
+        node = record { number = young.number; fetches = young.fetches; opened = young.opened; batches = young.batches; drawn = young.drawn; shut = young.shut; tickets = omega arith; items = omega arith };
+        sent = refl;
+        notes = refl;
+      }
+      | false ↦ same_quiet n node young
+    ]
+
+-- what is done only where the operation has shut keys is not done
+unless_shut : (n : ℕ) (node : NodeState) (work : Work) (b : Bool) → b ≡ false → IsYoung n node → IsQuiet (n + 1) (cond b work (begun node))
+unless_shut n node work true is young = absurd (cc)
+unless_shut n node work false is young = same_quiet n node young
+
+has_not_shut : (n : ℕ) (node : NodeState) (operation : ℕ) → IsYoung n node → is_of node.locks.shut operation ≡ false
+has_not_shut n node operation young = ap (λ shut. is_of shut operation) young.shut
 
 none_pending : (list : WaitList) (number : ℕ) → list.fetches ≡ [] → fetch_of list number ≡ None
 none_pending list number none = ap (λ fs. find (λ (f : PendingFetch). f.number == number) fs) none
@@ -87,11 +114,14 @@ quiet_message n node point (message.Stale id old new changes) young = same_quiet
 quiet_message n node point (message.Opened id dir) young = same_quiet n node young
 quiet_message n node point (message.ListAsk id version dir) young = same_quiet n node young
 quiet_message n node point (message.ListPart id from names) young = same_quiet n node young
-quiet_message n node point (message.Lock op keys) young = same_quiet n node young
+quiet_message n node point (message.Lock op keys) young = quiet_operation n node op (message.Lock op keys) young
 quiet_message n node point (message.Locked op from rows) young = same_quiet n node young
-quiet_message n node point (message.Count op dir) young = same_quiet n node young
+quiet_message n node point (message.Count op dir) young =
+    unless_shut n node (record (begun node) { sent = letter Coord (Here 0) (count_told node.rows node.number op dir) ∷ [] }) (is_of node.locks.shut op) (has_not_shut n node op young) young
 quiet_message n node point (message.Counted op from number) young = same_quiet n node young
-quiet_message n node point (message.Commit op updates) young = same_quiet n node young
+quiet_message n node point (message.Commit op updates) young =
+    let node_after = reopened node op (owned node.table node.number updates) in
+    unless_shut n node (record { node = node_after; sent = letter Coord (Here 0) (message.Done op node.number) ∷ []; notes = [] }) (is_of node.locks.shut op) (has_not_shut n node op young) young
 quiet_message n node point (message.Done op from) young = same_quiet n node young
 quiet_message n node point (message.Block op name) young = same_quiet n node young
 quiet_message n node point (message.Blocked op from rows) young = same_quiet n node young

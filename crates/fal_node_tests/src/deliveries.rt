@@ -3,29 +3,19 @@
 ghost use Rattle.std.specs.Prelude.{◌+◌, ℕ, IfOk};
 ghost use Rattle.fal_node_tests.specs.Young.{IsYoung, IsDelivery};
 
+use crate::effect::Effect;
 use fal_base::{Actor, Bytes, Envelope, OutOfMemory, Refuse};
 use fal_node::{Node, NodeEvent};
 use fal_wire::decode;
 use std::alloc::{AllocError, Global};
 use std::test::Fail;
 
-// What an envelope does to a node.
-#[derive(Clone, Copy, Debug, PartialEq, Eq)]
-enum Effect {
-    // it is no event of this node
-    Refused,
-    // the node sends and notes nothing, and is as it was
-    Nothing,
-    // anything else
-    Change,
-}
-
 // A call of stat on the root path by client 1.
 const STAT: &[u8] =
     b"\x01\x01\0\0\0\x1c\x01\0\0\0\x01\0\0\0\x01\0\0\0\0\0\0\0\0\0\0\0\0\0\0\0\0\x03\0\0";
 
 // Envelopes by receiver and bytes, whether the bytes are a record, and what they do to node 1 of three as they come once and once more.
-const ROWS: [(Actor, &[u8], bool, [Effect; 2]); 13] = [
+const ROWS: [(Actor, &[u8], bool, [Effect; 2]); 20] = [
     // what was sent to another actor
     (Actor::Client(1), STAT, true, [Effect::Refused; 2]),
     (Actor::Node(0), STAT, true, [Effect::Refused; 2]),
@@ -58,6 +48,52 @@ const ROWS: [(Actor, &[u8], bool, [Effect; 2]); 13] = [
         b"\x0e\x01\0\0\0\x05\0\0\0\x01\0",
         true,
         [Effect::Nothing; 2],
+    ),
+    // node 0 tells its rows, and counts
+    (
+        Actor::Node(1),
+        b"\x0a\x01\0\0\0\x11\0\0\0\x01\0\x01\0\0\0\0\0\0\0\x01\x01a\0",
+        true,
+        [Effect::Nothing; 2],
+    ),
+    (
+        Actor::Node(1),
+        b"\x0c\x01\0\0\0\x0d\0\0\0\x01\0\0\0\0\0\0\0\0\x02",
+        true,
+        [Effect::Nothing; 2],
+    ),
+    // operation 1 is to shut the name `a` in directory 1: it is taken once
+    (
+        Actor::Node(1),
+        b"\x09\x01\0\0\0\x0f\0\0\0\x01\x01\0\0\0\0\0\0\0\x01\x01a",
+        true,
+        [Effect::Change, Effect::Nothing],
+    ),
+    // an operation that has shut no key here asks for a count, and removes the row of that name
+    (
+        Actor::Node(1),
+        b"\x0b\x01\0\0\0\x0c\0\0\0\x01\0\0\0\0\0\0\x01\x01",
+        true,
+        [Effect::Nothing; 2],
+    ),
+    (
+        Actor::Node(1),
+        b"\x0d\x01\0\0\0\x10\0\0\0\x01\x01\0\0\0\0\0\0\0\x01\x01a\0",
+        true,
+        [Effect::Nothing; 2],
+    ),
+    // a rmdir, which is for the coordinator, and a chmod, which may be for a node
+    (
+        Actor::Node(1),
+        b"\x01\x01\0\0\0\x1e\x01\0\0\0\x01\0\0\0\x01\0\0\0\0\0\0\0\0\0\0\0\0\0\0\0\0\x09\0\x01\x01a",
+        true,
+        [Effect::Nothing; 2],
+    ),
+    (
+        Actor::Node(1),
+        b"\x01\x01\0\0\0\x20\x01\0\0\0\x01\0\0\0\x01\0\0\0\0\0\0\0\0\0\0\0\0\0\0\0\0\x05\0\x01\x01a\x01\xc0",
+        true,
+        [Effect::Change, Effect::Nothing],
     ),
     // fetch 7 of node 0, of node 2 and of the coordinator, which ask for what stands there; each time it comes is an item
     (

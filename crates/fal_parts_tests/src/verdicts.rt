@@ -181,7 +181,7 @@ type Row = (
     Option<Errno>,
 );
 
-fn rows() -> [Row; 8] {
+fn rows() -> [Row; 17] {
     [
         (5, "chmod", b"/a", b"", None),
         (5, "chown", b"/a", b"", Some(Errno::Eperm)),
@@ -191,6 +191,15 @@ fn rows() -> [Row; 8] {
         (0, "rename", b"/b", b"/b/x/y", Some(Errno::Einval)),
         (0, "rename", b"/f", b"/a", Some(Errno::Eisdir)),
         (0, "rename", b"/c", b"/c", Some(Errno::Enoent)),
+        (0, "rename", b"/b", b"/b", None),
+        (0, "rename", b"/b/x", b"/f", Some(Errno::Enotdir)),
+        (0, "rename", b"/a", b"/b", Some(Errno::Enotempty)),
+        (5, "rename", b"/a", b"/c", Some(Errno::Eacces)),
+        (5, "rename", b"/c", b"/a", Some(Errno::Enoent)),
+        (5, "chmod", b"/b", b"", Some(Errno::Eperm)),
+        (0, "chmod", b"/c", b"", Some(Errno::Enoent)),
+        (0, "rmdir", b"/f", b"", Some(Errno::Enotdir)),
+        (0, "rmdir", b"/a", b"", None),
     ]
 }
 

@@ -19,9 +19,9 @@ use Rattle.fal_exec.specs.Outcome.{without_change, outcome_of}
 use Rattle.fal_exec.specs.RowCall.{row_names}
 use Rattle.fal_wire.specs.declared.letter.Letter.{Letter}
 use Rattle.fal_wire.specs.declared.message.Message.TheVariants as message
-use Rattle.fal_wire.specs.Letters.{letter}
+use Rattle.fal_wire.specs.Letters.{letter, reply_letter}
 use Rattle.fal_run.specs.declared.call.BatchCall.{BatchCall}
-use Rattle.fal_run.specs.Letters.{reply_letter, pass_letter}
+use Rattle.fal_run.specs.Letters.{pass_letter}
 
 -- whether one row decides the call
 abbrev pub is_row_op : Op → Bool

@@ -1,19 +1,13 @@
--- Records to clients and to those that a call is passed on to, and the commits among notes.
+-- Records to those that a call is passed on to, and the commits among notes.
 use Rattle.std.specs.Prelude.{ℕ, suc, ◌+◌, List, [], ◌∷◌}
 use Rattle.fal_base.specs.declared.call.CallRec.{CallRec}
 use Rattle.fal_base.specs.declared.event.Actor.{Actor}
-use Rattle.fal_base.specs.declared.event.Actor.TheVariants.{Client}
 use Rattle.fal_base.specs.declared.event.Note.{Note}
 use Rattle.fal_base.specs.declared.event.Note.TheVariants as note
 use Rattle.fal_base.specs.declared.event.Point.{Point}
-use Rattle.fal_base.specs.declared.reply.Reply.{Reply}
 use Rattle.fal_wire.specs.declared.letter.Letter.{Letter}
 use Rattle.fal_wire.specs.declared.message.Message.TheVariants as message
 use Rattle.fal_wire.specs.Letters.{letter}
-
--- the answer to the client of a call
-abbrev pub reply_letter : CallRec → Point → Reply → Letter
-reply_letter call point reply = letter (Client call.id.client) point (message.Reply call.id reply)
 
 -- the call with its hop raised by one
 abbrev pub passed_on : CallRec → CallRec

@@ -18,6 +18,8 @@ pub enum Broken {
     NotEnabled,
     /// The event may happen, against the line.
     Enabled,
+    /// The event changes something, against the line.
+    Changes,
     /// The cluster is quiet, against the line.
     Quiet,
     /// The cluster is not quiet, against the line.

@@ -5,6 +5,7 @@ use crate::drawn::events;
 use crate::envelopes::read_wanted;
 use crate::events::event;
 use crate::scene::Scene;
+use crate::seen::seen;
 use crate::words::{is, number};
 use fal_base::{Actor, Refuse};
 
@@ -23,6 +24,17 @@ fn refused(scene: &mut Scene, words: &[&[u8]]) -> Result<(), Broken> {
         Err(Refuse::OutOfMemory) => Err(Broken::OutOfMemory),
         Ok(()) => Err(Broken::Enabled),
     }
+}
+
+// An event that happens, and changes no actor and sends and notes nothing.
+fn changes_nothing(scene: &mut Scene, again: bool, words: &[&[u8]]) -> Result<(), Broken> {
+    let event = event(&scene.cluster, again, words)?;
+    let before = seen(scene.alloc, &scene.cluster)?;
+    scene.cluster.step(event)?;
+    if seen(scene.alloc, &scene.cluster)? == before {
+        return Ok(());
+    }
+    Err(Broken::Changes)
 }
 
 fn quiet(scene: &Scene) -> Result<(), Broken> {
@@ -67,6 +79,10 @@ pub fn command(scene: &mut Scene, words: &[&[u8]]) -> Result<(), Broken> {
     match words {
         [only] => word(scene, only),
         [first, words @ ..] if is(first, b"refused") => refused(scene, words),
+        [first, second, words @ ..] if is(first, b"nothing") && is(second, b"again") => {
+            changes_nothing(scene, true, words)
+        }
+        [first, words @ ..] if is(first, b"nothing") => changes_nothing(scene, false, words),
         [first, words @ ..] if is(first, b"again") => happens(scene, true, words),
         [first, words @ ..] if is(first, b"hold") => scene.hold(read_wanted(words, Actor::Coord)?),
         [first, second] if is(first, b"release") && is(second, b"held") => {

@@ -16,7 +16,7 @@ fn draw(source: &mut Lcg64Xsh32, below: u32) -> u32 {
     source.next_word().checked_rem(below).unwrap_or(0)
 }
 
-fn drawn_path(drawn: u32) -> &'static [u8] {
+fn path_bytes(drawn: u32) -> &'static [u8] {
     match drawn {
         0 => b"/a",
         1 => b"/b",
@@ -27,6 +27,19 @@ fn drawn_path(drawn: u32) -> &'static [u8] {
     }
 }
 
+fn drawn_path(alloc: Global, source: &mut Lcg64Xsh32) -> Result<PathArg, Broken> {
+    Ok(PathArg::read(alloc, path_bytes(draw(source, 6)))?)
+}
+
+// Mostly a mode that lets all users search.
+fn drawn_mode(source: &mut Lcg64Xsh32) -> u16 {
+    match draw(source, 4) {
+        0 => 0o700,
+        1 => 0o777,
+        _ => 0o755,
+    }
+}
+
 /// A call on one of few paths, now and then by another user than root.
 pub fn drawn_call(alloc: Global, source: &mut Lcg64Xsh32) -> Result<Call, Broken> {
     let (uid, gid) = if draw(source, 4) == 0 {
@@ -34,12 +47,27 @@ pub fn drawn_call(alloc: Global, source: &mut Lcg64Xsh32) -> Result<Call, Broken
     } else {
         (0, 0)
     };
-    let path = PathArg::read(alloc, drawn_path(draw(source, 6)))?;
-    let op = match draw(source, 6) {
-        0 | 1 => Op::Mkdir { path, mode: 0o755 },
-        2 => Op::Create { path, mode: 0o640 },
-        3 => Op::Truncate { path, size: 10 },
-        4 => Op::Unlink { path },
+    let path = drawn_path(alloc, source)?;
+    let op = match draw(source, 16) {
+        0..=3 => Op::Mkdir { path, mode: 0o755 },
+        4 => Op::Create { path, mode: 0o640 },
+        5 => Op::Truncate { path, size: 10 },
+        6 => Op::Unlink { path },
+        7 => Op::Chmod {
+            path,
+            mode: drawn_mode(source),
+        },
+        8 => Op::Chown {
+            path,
+            uid: 1000,
+            gid: 100,
+        },
+        9 => Op::Rmdir { path },
+        10..=13 => Op::Rename {
+            old: path,
+            new: drawn_path(alloc, source)?,
+        },
+        14 => Op::Access { path, want: 5 },
         _ => Op::Stat { path },
     };
     Ok(Call {

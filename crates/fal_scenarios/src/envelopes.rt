@@ -122,3 +122,13 @@ pub fn gone(book: &Book, wanted: &Wanted) -> Result<u64, Broken> {
     }
     found
 }
+
+/// The first such envelope that came already.
+pub fn gone_first(book: &Book, wanted: &Wanted) -> Result<u64, Broken> {
+    for (number, envelope) in book.sent().iter().enumerate() {
+        if wanted.fits(envelope) && came(book.events(), number as u64) {
+            return Ok(number as u64);
+        }
+    }
+    Err(Broken::NoEnvelope)
+}

@@ -1,7 +1,7 @@
 //! Events, as a line names them.
 
 use crate::broken::Broken;
-use crate::envelopes::{due, gone, read_wanted};
+use crate::envelopes::{due, gone, gone_first, read_wanted};
 use crate::words::{is, number, small};
 use fal_alone::Cluster;
 use fal_base::{Actor, Event};
@@ -11,6 +11,9 @@ fn envelope(cluster: &Cluster, again: bool, words: &[&[u8]], to: Actor) -> Resul
     let book = cluster.book();
     match words {
         [word] if is(word, b"unsent") => Ok(book.sent().len() as u64),
+        [word, words @ ..] if again && is(word, b"first") => {
+            gone_first(book, &read_wanted(words, to)?)
+        }
         _ if again => gone(book, &read_wanted(words, to)?),
         _ => due(book, &read_wanted(words, to)?),
     }

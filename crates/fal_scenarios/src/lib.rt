@@ -19,6 +19,7 @@
 //! | `gather node N`, `start` | a node gathers; the coordinator starts |
 //! | `exec node N [batch B]`, `release node N [batch B]`, `serve node N [item I]` | the first of them that is due, or the one with this number |
 //! | `again EVENT` | the envelope came before |
+//! | `nothing EVENT`, `nothing again EVENT` | the event happens, and no actor changes, no record is sent and no entry made |
 //! | `refused EVENT` | the event may not happen |
 //! | `hold ENVELOPE`, `release held` | the next such envelope waits in what follows; nothing waits any longer |
 //! | `drain`, `finish` | all that is fresh happens but for what waits, without Sends or with them |
@@ -26,8 +27,8 @@
 //! | `quiet`, `busy` | nothing is under way, or something is |
 //! | `expect`, `rows` | the lines below, after two spaces each, are the transcript's since the last `expect`, or the tree's |
 //!
-//! ENVELOPE is `[KIND] [from ACTOR] [to ACTOR]`, the first such envelope that did not come yet (with `again`, the last that came), or `unsent`, one that
-//! nobody sent. ACTOR is `lane L`, `node N` or `coordinator`; without `to` it is the event's own.
+//! ENVELOPE is `[KIND] [from ACTOR] [to ACTOR]`, the first such envelope that did not come yet (with `again`, the last that came, or after
+//! `first` the first that came), or `unsent`, one that nobody sent. ACTOR is `lane L`, `node N` or `coordinator`; without `to` it is the event's own.
 //!
 //! At the end of each scenario every answer has to be that of the plain tree at its point, the rows those that the commits leave, and the
 //! same events, entered through the lock of a book, leave the same transcript.
@@ -60,12 +61,26 @@ mod held;
 #[cfg(test)]
 mod judge;
 #[cfg(test)]
+mod operations;
+#[cfg(test)]
 mod orders;
 #[cfg(test)]
+mod passed;
+#[cfg(test)]
 mod refused;
+#[cfg(test)]
+mod renames;
 #[cfg(test)]
 mod running;
 #[cfg(test)]
 mod scene;
+#[cfg(test)]
+mod seen;
+#[cfg(test)]
+mod shutting;
+#[cfg(test)]
+mod strange;
+#[cfg(test)]
+mod waiting;
 #[cfg(test)]
 mod words;

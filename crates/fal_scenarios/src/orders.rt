@@ -3,7 +3,7 @@
 use crate::running::run_all;
 use std::test::Fail;
 
-const TEXTS: [&str; 3] = [
+const TEXTS: [&str; 6] = [
     "\
 # One call, event by event.
 nodes 3
@@ -51,6 +51,37 @@ lanes 2
 batch 4
 calls 60 from 11
 events 300 from 12
+finish
+quiet
+",
+    "\
+# All operations on more nodes and lanes.
+nodes 4
+lanes 4
+batch 4
+calls 240 from 21
+events 1000 from 22
+finish
+quiet
+",
+    "\
+# The same of single calls, with a rest in between.
+nodes 4
+lanes 4
+calls 160 from 24
+events 600 from 25
+drain
+quiet
+events 400 from 26
+finish
+quiet
+",
+    "\
+# The same of single calls on two nodes.
+nodes 2
+lanes 4
+calls 120 from 31
+events 1000 from 32
 finish
 quiet
 ",

@@ -26,7 +26,7 @@ refused gather node 3
 refused exec node 1 batch 0
 refused release node 1 batch 0
 refused serve node 1 item 0
-# a call is under way, nothing waits, and there is no coordinator
+# a call is under way, and nothing waits
 refused send lane 1
 refused gather node 1
 refused start
@@ -42,12 +42,8 @@ fn what_may_not_happen_is_refused(rt: HostRuntime) -> Result<(), Fail> {
 }
 
 // Scenarios that do not hold, with the reason.
-const WRONG: [(&str, &str); 14] = [
-    ("call 1 0:0 rmdir /a\nfinish\n", "MayNotRun"),
-    ("call 1 0:0 rename /a /b\nfinish\n", "MayNotRun"),
+const WRONG: [(&str, &str); 13] = [
     ("call 1 0:0 list /a\nfinish\n", "MayNotRun"),
-    ("call 1 0:0 chmod /a 755\nfinish\n", "MayNotRun"),
-    ("call 1 0:0 chown /a 1 1\nfinish\n", "MayNotRun"),
     ("call 1 0:0 place a hash\nfinish\n", "MayNotRun"),
     ("call 1 0:0 fly /a\nfinish\n", "Grammar"),
     (
@@ -64,6 +60,15 @@ const WRONG: [(&str, &str); 14] = [
         "NotEnabled",
     ),
     ("call 1 0:0 stat /a\nrefused send lane 1\n", "Enabled"),
+    ("call 1 0:0 stat /a\nnothing send lane 1\n", "Changes"),
+    (
+        "call 1 0:0 stat /a\nsend lane 1\nnothing deliver node 0\n",
+        "Changes",
+    ),
+    (
+        "call 1 0:0 rmdir /a\nsend lane 1\nnothing hear Call\n",
+        "Changes",
+    ),
     ("call 1 0:0 stat /a\nsend lane 1\nquiet\n", "Busy"),
     ("call 1 0:0 stat /a\nbusy\n", "Quiet"),
 ];

@@ -20,12 +20,18 @@ struct Reading {
 }
 
 impl Reading {
-    // Opens the scene, if it is not open, and takes a line after the header.
-    fn act(&mut self, words: &[&[u8]]) -> Result<(), Broken> {
+    // Opens the scene, if it is not open.
+    fn open(&mut self) -> Result<(), Broken> {
         if self.scene.is_none() {
             let cluster = self.header.cluster(self.alloc)?;
-            self.scene = Some(Scene::new(self.alloc, cluster));
+            self.scene.insert(Scene::new(self.alloc, cluster));
         }
+        Ok(())
+    }
+
+    // Takes a line after the header.
+    fn act(&mut self, words: &[&[u8]]) -> Result<(), Broken> {
+        self.open()?;
         let Some(scene) = &mut self.scene else {
             return Err(Broken::Grammar);
         };
@@ -57,7 +63,7 @@ impl Reading {
     }
 
     // What holds at the end of every scenario.
-    fn close<R: Wait>(self, rt: &R) -> Result<(), Broken> {
+    fn close<R: Wait>(&self, rt: &R) -> Result<(), Broken> {
         let Some(scene) = &self.scene else {
             return Err(Broken::Grammar);
         };
@@ -81,12 +87,8 @@ fn fail(text: &str, stop: Stop<'_>) -> Fail {
     Fail::new(format_args!("{broken:?} at line {at}, `{line}`, of: {text}"))
 }
 
-fn run<'a, R: Wait>(rt: &R, alloc: Global, text: &'a str) -> Result<(), Stop<'a>> {
-    let mut reading = Reading {
-        alloc,
-        header: Header::new(alloc),
-        scene: None,
-    };
+// Takes all lines, and then what holds at the end.
+fn read_all<'a, R: Wait>(rt: &R, reading: &mut Reading, text: &'a str) -> Result<(), Stop<'a>> {
     for (at, line) in text.as_bytes().split(|b| *b == b'\n').enumerate() {
         if let Err(broken) = reading.take(line) {
             return Err(Stop { at, line, broken });
@@ -97,6 +99,15 @@ fn run<'a, R: Wait>(rt: &R, alloc: Global, text: &'a str) -> Result<(), Stop<'a>
         line: b"end",
         broken,
     })
+}
+
+fn run<'a, R: Wait>(rt: &R, alloc: Global, text: &'a str) -> Result<(), Stop<'a>> {
+    let mut reading = Reading {
+        alloc,
+        header: Header::new(alloc),
+        scene: None,
+    };
+    read_all(rt, &mut reading, text)
 }
 
 /// Why the scenario does not hold, or `Holds`.

@@ -25,10 +25,6 @@ verb_word word =
 
 -- whether clusters serve the operation. One that they do not serve yet is none of the table
 abbrev pub is_served_verb : Verb → Bool
-is_served_verb verb.Chmod = false
-is_served_verb verb.Chown = false
-is_served_verb verb.Rmdir = false
-is_served_verb verb.Rename = false
 is_served_verb verb.List = false
 is_served_verb verb.Place = false
 is_served_verb verb = true

@@ -58,15 +58,7 @@ pub fn verb_word(word: &[u8]) -> Option<Verb>
 fn is_served(verb: Verb) -> bool
     ensures { result ≡ is_served_of verb }
 {
-    match verb {
-        Verb::Chmod => false,
-        Verb::Chown => false,
-        Verb::Rmdir => false,
-        Verb::Rename => false,
-        Verb::List => false,
-        Verb::Place => false,
-        _ => true,
-    }
+    !matches!(verb, Verb::List | Verb::Place)
 }
 
 /// The operation that a word names, where clusters serve it.

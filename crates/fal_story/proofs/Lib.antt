@@ -1,3 +1,4 @@
+pub mod Coordinator
 pub mod Drain
 pub mod Events
 pub mod Families

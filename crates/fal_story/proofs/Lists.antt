@@ -1,5 +1,6 @@
 pub mod Each
 pub mod EachAll
+pub mod GatherKeys
 pub mod GatherLetters
 pub mod GatherLists
 pub mod GatherPlan

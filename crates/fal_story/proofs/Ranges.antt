@@ -1,5 +1,11 @@
 pub mod Bounds
 pub mod ClientRanges
+pub mod CoordBounds
+pub mod CoordInRange
+pub mod CoordPaths
+pub mod CoordRanges
+pub mod CoordVerdicts
+pub mod CoordWalks
 pub mod Counters
 pub mod Counts
 pub mod DeliverRanges
@@ -11,5 +17,7 @@ pub mod GatherRanges
 pub mod InRange
 pub mod MessageRanges
 pub mod NodeRanges
+pub mod OperationRecords
+pub mod RowCounts
 pub mod RowRanges
 pub mod WaitRanges

@@ -8,7 +8,9 @@ pub mod Met
 pub mod Noted
 pub mod Numbers
 pub mod Once
+pub mod PathWalks
 pub mod Paths
+pub mod RowsOnce
 pub mod Standing
 pub mod Transcript
 pub mod TreeRows

@@ -15,7 +15,7 @@ use Rattle.fal_base.specs.PathArgs.{IsRead}
 use Rattle.fal_wire.specs.Numbers.{cred_field}
 use Rattle.fal_wire.specs.Ops.{op_field}
 
--- the operations that nodes alone answer, by one row. The others are still to come
+-- the operations that are built: all but listings and placing
 abbrev pub is_served : Op → Bool
 is_served (op.Mkdir path mode) = true
 is_served (op.Create path mode) = true
@@ -23,6 +23,10 @@ is_served (op.Stat path) = true
 is_served (op.Access path want) = true
 is_served (op.Truncate path size) = true
 is_served (op.Unlink path) = true
+is_served (op.Chmod path mode) = true
+is_served (op.Chown path uid gid) = true
+is_served (op.Rmdir path) = true
+is_served (op.Rename old new) = true
 is_served other = false
 
 -- the call is served, a bad path has the fault of its bytes, and where its path is good a record can hold the call
@@ -36,7 +40,7 @@ abbrev pub IsPathInRange : PathArg → Type 0
 IsPathInRange (Good names) = IsTrue (list_all is_name names) × (path_bytes names ≤ 4095)
 IsPathInRange (Bad fault raw) = IsRead (Bad fault raw)
 
--- the operation is served, its path is such a one, and its number is in range
+-- the operation is served, its paths are such ones, and its numbers are in range
 abbrev pub IsOpInRange : Op → Type 0
 IsOpInRange (op.Mkdir path mode) = IsPathInRange path × (mode < 512)
 IsOpInRange (op.Create path mode) = IsPathInRange path × (mode < 512)
@@ -44,9 +48,13 @@ IsOpInRange (op.Stat path) = IsPathInRange path
 IsOpInRange (op.Access path want) = IsPathInRange path × (want < 8)
 IsOpInRange (op.Truncate path size) = IsPathInRange path × (size < 2 ^ 63)
 IsOpInRange (op.Unlink path) = IsPathInRange path
+IsOpInRange (op.Chmod path mode) = IsPathInRange path × (mode < 512)
+IsOpInRange (op.Chown path uid gid) = IsPathInRange path × (uid < 2 ^ 32) × (gid < 2 ^ 32)
+IsOpInRange (op.Rmdir path) = IsPathInRange path
+IsOpInRange (op.Rename old new) = IsPathInRange old × IsPathInRange new
 IsOpInRange other = ⊥
 
--- the same in numbers: the call is served, and its path and its numbers are in range
+-- the same in numbers: the call is served, and its paths and its numbers are in range
 pub record IsCallInRange (call : Call) : Type 0 where
   pub uid : call.cred.uid < 2 ^ 32
   pub gid : call.cred.gid < 2 ^ 32

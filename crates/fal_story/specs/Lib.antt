@@ -3,6 +3,7 @@ pub mod AllRows
 pub mod Arriving
 pub mod Clusters
 pub mod Fresh
+pub mod Held
 pub mod Lasting
 pub mod Machines
 pub mod Pushing

@@ -2,6 +2,7 @@ ghost use Rattle.std.specs.Prelude.{◌≡◌, ◌≤◌, ◌↔◌, IsTrue, Non
 ghost use Rattle.std.specs.List.{All, list_all};
 ghost use Rattle.fal_base.specs.Paths.{is_dot as is_dot_name};
 ghost use Rattle.fal_base.specs.declared.call.Call.{Call as CallSeen};
+ghost use Rattle.fal_base.specs.declared.op.Op.TheVariants as Op;
 ghost use Rattle.fal_base.specs.OpPaths.{bad_path, fault_of, paths_of};
 ghost use Rattle.fal_base.specs.PathArgs.{IsRead};
 ghost use Rattle.fal_story.specs.Clusters.{IsCall, IsCluster, IsCallInRange, is_served};
@@ -9,6 +10,7 @@ ghost use Rattle.fal_base.specs.Names.{is_name as is_name_of};
 ghost use Rattle.fal_base.specs.Paths.{path_bytes};
 ghost use Rattle.fal_wire.specs.Names.{path_arg_field, path_field};
 ghost use Rattle.fal_wire.specs.Ops.{op_field};
+ghost use Rattle.fal_story.specs.Held.{ArePathsHeld};
 
 use fal_base::{Call, CallList, Config, Cred, Name, Op, PathArg};
 
@@ -78,7 +80,27 @@ fn is_held(path: &PathArg, rest: bool) -> bool
     }
 }
 
-// Whether nodes alone answer the operation, a bad path has the fault of its bytes, and a record can hold the operation where its path is good.
+// The same of the two paths of a rename.
+fn are_held(old: &PathArg, new: &PathArg) -> bool
+    ensures { IsTrue result ↔ ArePathsHeld old.now new.now }
+{
+    match old {
+        PathArg::Good(from) => match new {
+            PathArg::Good(to) => is_path(from.names()) && is_path(to.names()),
+            PathArg::Bad { .. } => new.is_read(),
+        },
+        PathArg::Bad { .. } => old.is_read() && new.is_read(),
+    }
+}
+
+// The same of a chown, whose numbers are as wide as their fields.
+fn is_chown(path: &PathArg, uid: u32, gid: u32) -> bool
+    ensures { IsTrue result ↔ All IsRead (paths_of (Op.Chown path.now uid gid)) × (bad_path (Op.Chown path.now uid gid) ≡ None → op_field.Fits (Op.Chown path.now uid gid)) }
+{
+    is_held(path, true)
+}
+
+// Whether the operation is served, a bad path has the fault of its bytes, and a record can hold the operation where its path is good.
 fn is_op(op: &Op) -> bool
     ensures { IsTrue result ↔ IsTrue (is_served op.now) × All IsRead (paths_of op.now) × (bad_path op.now ≡ None → op_field.Fits op.now) }
 {
@@ -89,10 +111,10 @@ fn is_op(op: &Op) -> bool
         Op::Access { path, want } => is_held(path, *want < 8),
         Op::Truncate { path, size } => is_held(path, *size < SIZES),
         Op::Unlink { path } => is_held(path, true),
-        Op::Chmod { .. } => false,
-        Op::Chown { .. } => false,
-        Op::Rmdir { .. } => false,
-        Op::Rename { .. } => false,
+        Op::Chmod { path, mode } => is_held(path, *mode < 512),
+        Op::Chown { path, uid, gid } => is_chown(path, *uid, *gid),
+        Op::Rmdir { path } => is_held(path, true),
+        Op::Rename { old, new } => are_held(old, new),
         Op::List { .. } => false,
         Op::Place { .. } => false,
     }
@@ -147,9 +169,10 @@ fn is_few(count: usize) -> bool
     1 <= count && count <= 16
 }
 
-/// Whether the cluster may run: 1 to 16 nodes, 1 to 16 lanes, batches of 1 to 64 calls and at most 10,000 calls, each a mkdir, create, stat,
-/// access, truncate or unlink. A bad path has the fault of its bytes, and where the path is good a record can hold the call (a mode of nine
-/// bits, a `want` of three, a size below 2^63, and at most 4,095 bytes of names, each with the slash before it). Takes no memory.
+/// Whether the cluster may run: 1 to 16 nodes, 1 to 16 lanes, batches of 1 to 64 calls and at most 10,000 calls, each of any
+/// operation but list and place. A bad path has the fault of its bytes, and where the paths are good a record can hold the call (a mode of
+/// nine bits, a `want` of three, a size below 2^63, and at most 4,095 bytes of names in a path, each with the slash before it). Takes no
+/// memory.
 pub fn may_run(config: &Config) -> bool
     ensures { IsTrue result ↔ IsCluster config.now }
 {

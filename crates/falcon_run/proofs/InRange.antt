@@ -36,12 +36,12 @@ op_in_range (op.Mkdir path mode) is served = (path_in_range path is.0, is.1)
 op_in_range (op.Create path mode) is served = (path_in_range path is.0, is.1)
 op_in_range (op.Stat path) is served = path_in_range path is
 op_in_range (op.Access path want) is served = (path_in_range path is.0, is.1)
-op_in_range (op.Chmod path mode) is served = absurd (cc)
-op_in_range (op.Chown path uid gid) is served = absurd (cc)
+op_in_range (op.Chmod path mode) is served = (path_in_range path is.0, is.1)
+op_in_range (op.Chown path uid gid) is served = (path_in_range path is.0, is.1, is.2)
 op_in_range (op.Truncate path size) is served = (path_in_range path is.0, is.1)
 op_in_range (op.Unlink path) is served = path_in_range path is
-op_in_range (op.Rmdir path) is served = absurd (cc)
-op_in_range (op.Rename old new) is served = absurd (cc)
+op_in_range (op.Rmdir path) is served = path_in_range path is
+op_in_range (op.Rename old new) is served = (path_in_range old is.0, path_in_range new is.1)
 op_in_range (op.List path) is served = absurd (cc)
 op_in_range (op.Place name rule) is served = absurd (cc)
 

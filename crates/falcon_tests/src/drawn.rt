@@ -1,7 +1,7 @@
 use crate::running::run;
-use fal_base::{Call, CallList, Config, Cred, Entry, LaneList, Op, PathArg, Reply};
+use fal_base::{Call, CallList, Config, Cred, Entry, LaneList, Op, PathArg};
 use fal_report::{put_call, text_of};
-use fal_tree::PlainTree;
+use fal_tree::{ApplyFault, PlainTree};
 use rand_core::utils::NextWord;
 use rand_pcg::Lcg64Xsh32;
 use std::alloc::Global;
@@ -67,7 +67,7 @@ fn mode(drawn: u32) -> u16 {
     }
 }
 
-fn op(path: PathArg, kind: u32, drawn: u32) -> Op {
+fn op(path: PathArg, other: PathArg, kind: u32, drawn: u32) -> Op {
     match kind {
         0 | 1 => Op::Mkdir {
             path,
@@ -86,27 +86,35 @@ fn op(path: PathArg, kind: u32, drawn: u32) -> Op {
             path,
             size: u64::from(drawn),
         },
-        _ => Op::Unlink { path },
+        7 => Op::Unlink { path },
+        8 => Op::Chmod {
+            path,
+            mode: mode(drawn % 4),
+        },
+        9 => Op::Chown {
+            path,
+            uid: 1000 + drawn % 2,
+            gid: 100,
+        },
+        10 => Op::Rmdir { path },
+        _ => Op::Rename {
+            old: path,
+            new: other,
+        },
     }
 }
 
 fn call(alloc: Global, source: &mut Lcg64Xsh32) -> Result<Call, Fail> {
     let cred = cred(draw(source, 5));
     let path = path(alloc, source)?;
-    let kind = draw(source, 8);
-    let op = op(path, kind, draw(source, 1024));
+    let other = self::path(alloc, source)?;
+    let kind = draw(source, 13);
+    let op = op(path, other, kind, draw(source, 1024));
     Ok(Call { cred, op })
 }
 
 fn is_new(op: &Op) -> bool {
     matches!(op, Op::Mkdir { .. } | Op::Create { .. })
-}
-
-fn is_change(op: &Op) -> bool {
-    matches!(
-        op,
-        Op::Mkdir { .. } | Op::Create { .. } | Op::Truncate { .. } | Op::Unlink { .. }
-    )
 }
 
 // The plain tree, and what it recorded.
@@ -118,6 +126,26 @@ struct Plain {
     made: u32,
 }
 
+// Lays the call on the tree. A call that makes no commit changes nothing.
+fn commit(plain: &mut Plain, call: &Call, seq: u32) -> Result<(), Fail> {
+    let ino = if is_new(&call.op) {
+        256 * (u64::from(plain.made) + 1)
+    } else {
+        0
+    };
+    match plain.tree.apply(&call.cred, &call.op, ino) {
+        Err(ApplyFault::NoCommit) => return Ok(()),
+        Err(fault) => return Err(Fail::from(fault)),
+        Ok(()) => {}
+    }
+    plain.entries.push(Entry::Commit { lane: 1, seq, ino })?;
+    plain.commits = plain.commits.saturating_add(1);
+    if is_new(&call.op) {
+        plain.made = plain.made.saturating_add(1);
+    }
+    Ok(())
+}
+
 fn step(plain: &mut Plain, call: &Call, seq: u32) -> Result<(), Fail> {
     if let Op::Place { .. } = &call.op {
         return Ok(());
@@ -125,19 +153,7 @@ fn step(plain: &mut Plain, call: &Call, seq: u32) -> Result<(), Fail> {
     plain.entries.push(Entry::Sent { lane: 1, seq })?;
     let reply = plain.tree.answer(&call.cred, &call.op)?;
     let point = u64::from(plain.commits);
-    if reply == Reply::Fine && is_change(&call.op) {
-        let ino = if is_new(&call.op) {
-            256 * (u64::from(plain.made) + 1)
-        } else {
-            0
-        };
-        plain.tree.apply(&call.cred, &call.op, ino)?;
-        plain.entries.push(Entry::Commit { lane: 1, seq, ino })?;
-        plain.commits = plain.commits.saturating_add(1);
-        if is_new(&call.op) {
-            plain.made = plain.made.saturating_add(1);
-        }
-    }
+    commit(plain, call, seq)?;
     plain.entries.push(Entry::Answered {
         lane: 1,
         seq,

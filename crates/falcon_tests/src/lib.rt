@@ -4,6 +4,8 @@
 #[cfg(test)]
 mod drawn;
 #[cfg(test)]
+mod operations;
+#[cfg(test)]
 mod outputs;
 #[cfg(test)]
 mod running;

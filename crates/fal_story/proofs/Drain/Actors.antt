@@ -27,11 +27,11 @@ use Rattle.fal_story.proofs.View.{View}
 use Rattle.fal_story.specs.Clusters.{IsCluster, is_lane, is_served}
 use Rattle.fal_story.specs.World.{World, envelopes_of}
 
--- an actor of the cluster. Nothing is sent to the coordinator
+-- an actor of the cluster
 abbrev pub IsActor : Config → Actor → Type 0
 IsActor config (Client lane) = IsTrue (is_lane config lane)
 IsActor config (Node n) = n < config.nodes
-IsActor config Coord = ⊥
+IsActor config Coord = Unit {0}
 
 -- ---- nodes
 
@@ -43,7 +43,7 @@ owner_there config key cluster =
     let some = cluster.some_nodes in
     elim (is_root_key key) as (λ b. cond b 0 (name_hash key.name % config.nodes) < config.nodes) [ true ↦ omega arith | false ↦ rest_below (name_hash key.name) config.nodes (omega arith) ]
 
-route_there : (config : Config) (names : List (List ℕ)) → IsCluster config → route (table_of config) names < config.nodes
+pub route_there : (config : Config) (names : List (List ℕ)) → IsCluster config → route (table_of config) names < config.nodes
 route_there config names cluster =
     let some = cluster.some_nodes in
     elim (slice_get names (length names - 1)) as (λ o. route_of_last (table_of config) o < config.nodes) [ None ↦ omega arith | Some name ↦ rest_below (name_hash name) config.nodes (omega arith) ]
@@ -61,6 +61,10 @@ served_there config (op.Stat path) cluster served = node_for_there config path c
 served_there config (op.Access path want) cluster served = node_for_there config path cluster
 served_there config (op.Truncate path size) cluster served = node_for_there config path cluster
 served_there config (op.Unlink path) cluster served = node_for_there config path cluster
+served_there config (op.Chmod path mode) cluster served = node_for_there config path cluster
+served_there config (op.Chown path uid gid) cluster served = node_for_there config path cluster
+served_there config (op.Rmdir path) cluster served = tt
+served_there config (op.Rename old new) cluster served = tt
 served_there config other cluster served = absurd (cc)
 
 -- ---- lanes

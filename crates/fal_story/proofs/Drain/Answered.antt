@@ -1,5 +1,5 @@
 -- Where nothing but Send is fresh each call that was sent is answered.
-use Rattle.std.proofs.Common.{◌≡◌, inl, inr, ⊎_elim, ℕ, suc, ◌+◌, ◌<◌, ◌≤◌, Bool, true, false, ◌&&◌, List, [], ◌∷◌, length, Some, None, refl, subst, arith}
+use Rattle.std.proofs.Common.{◌≡◌, inl, inr, ⊎_elim, ℕ, ◌+◌, ◌<◌, ◌≤◌, Bool, true, false, List, [], ◌++◌, length, Some, None, refl, ap, ◌∙◌, subst, arith}
 use Rattle.std.specs.Prelude.{slice_get, take, ◌==◌}
 use Rattle.std.proofs.lemmas.Bool.Decides.{nat_tests}
 use Rattle.fal_base.specs.declared.call.CallId.{CallId}
@@ -8,11 +8,13 @@ use Rattle.fal_base.specs.declared.entry.Entry.TheVariants as entry
 use Rattle.fal_base.specs.declared.event.Event.{Event}
 use Rattle.fal_base.specs.Transcript.{sents}
 use Rattle.fal_client.specs.Step.{id_at}
+use Rattle.fal_coord.specs.declared.stage.Stage.{Stage}
+use Rattle.fal_coord.specs.declared.stage.Stage.TheVariants as stage
+use Rattle.fal_coord.specs.State.{CoordState, is_idle, is_quiet as is_coord_quiet}
 use Rattle.fal_node.specs.declared.batch.Batch.{Batch}
-use Rattle.fal_node.specs.Due.{is_quiet}
-use Rattle.fal_node.specs.State.{NodeState}
-use Rattle.fal_story.proofs.Drain.Follow.{IsUnder, Asked, Waiting, Planned, Answered, passed_on, IsTold}
+use Rattle.fal_story.proofs.Drain.Follow.{IsUnder, Asked, Waiting, Planned, Hosted, Answered, calls_of, hosted, marks_in, passed_on, IsTold}
 use Rattle.fal_story.proofs.Drain.FollowRuns.{IsLive, legal_lives}
+use Rattle.fal_story.proofs.Drain.MovingCoord.{no_length, both_are, quiet_lists}
 use Rattle.fal_story.proofs.Drain.Quiet.{envelope_at, none_is_quiet}
 use Rattle.fal_story.proofs.Events.LegalRuns.{IsKept}
 use Rattle.fal_story.proofs.Events.Shows.{calls_in, posts_of}
@@ -25,24 +27,25 @@ use Rattle.fal_story.specs.World.{World}
 
 -- ---- a quiet cluster
 
-no_length : {A : Type 0} (xs : List A) → (length xs == 0) ≡ true → xs ≡ []
-no_length [] e = refl
-no_length (x ∷ xs) e = let wrong : (suc (length xs) == 0) ≡ false = grind (arith, nat_tests) in absurd (cc)
+idle_stage : (t : Stage) → is_idle t ≡ true → calls_of t ≡ []
+idle_stage stage.Idle e = refl
+idle_stage (stage.Walk call fetch key) e = absurd (cc)
+idle_stage (stage.Lock operation missing rows) e = absurd (cc)
+idle_stage (stage.Count operation rows dir updates missing counts) e = absurd (cc)
+idle_stage (stage.Finish keys updates missing) e = absurd (cc)
 
-both_are : (a b : Bool) → (a && b) ≡ true → (a ≡ true) × (b ≡ true)
-both_are true b e = (refl, e)
-both_are false b e = absurd (cc)
-
-quiet_lists : (node : NodeState) → is_quiet node ≡ true → (node.batches ≡ []) × (node.waiting.calls ≡ [])
-quiet_lists node quiet =
-    let parts = both_are (length node.batches == 0) (length node.waiting.calls == 0) (both_are ((length node.batches == 0) && (length node.waiting.calls == 0)) (length node.items == 0) quiet).0 in
-    (no_length node.batches parts.0, no_length node.waiting.calls parts.1)
+-- a quiet coordinator keeps no call
+none_hosted : (coord : CoordState) → is_coord_quiet coord ≡ true → hosted coord ≡ []
+none_hosted coord quiet =
+    let parts = both_are (length coord.waiting == 0) (is_idle coord.stage) quiet in
+    ap (λ cs. cs ++ coord.waiting) (idle_stage coord.stage parts.1) ∙ no_length coord.waiting parts.0
 
 -- no call is under way
-none_under : (config : Config) (w : World) (came : ℕ → Bool) (id : CallId) → IsQuiet config w came → IsUnder (posts_of w.envelopes) came w.nodes id → ⊥
-none_under config w came id q (Asked k p n call at fresh is newer) = let x = envelope_at w.envelopes k _ at in let there = q.all_came k x.0 x.1 in absurd (cc)
+none_under : (config : Config) (w : World) (came : ℕ → Bool) (id : CallId) → IsQuiet config w came → IsUnder (posts_of w.envelopes) came (marks_in w) w.nodes w.coord id → ⊥
+none_under config w came id q (Asked k p n call at fresh is newer suited) = let x = envelope_at w.envelopes k _ at in let there = q.all_came k x.0 x.1 in absurd (cc)
 none_under config w came id q (Waiting n x at is) = let none : IsIn x [] = subst (IsIn x) (quiet_lists (w.nodes n) (q.nodes n)).1 at in absurd none
 none_under config w came id q (Planned n x at is) = let none : IsIn x (calls_in []) = subst (λ (bs : List Batch). IsIn x (calls_in bs)) (quiet_lists (w.nodes n) (q.nodes n)).0 at in absurd none
+none_under config w came id q (Hosted c at is) = let none : IsIn c [] = subst (IsIn c) (none_hosted w.coord q.coord) at in absurd none
 none_under config w came id q (Answered k p reply at fresh) = let x = envelope_at w.envelopes k _ at in let there = q.all_came k x.0 x.1 in absurd (cc)
 
 -- ---- calls that were sent

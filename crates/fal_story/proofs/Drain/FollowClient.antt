@@ -1,5 +1,5 @@
 -- Each call under way is found after a client sent, and after it heard.
-use Rattle.std.proofs.Common.{◌≡◌, ◌≢◌, inl, inr, ⊎_elim, ℕ, ◌+◌, ◌<◌, ◌≤◌, Bool, true, false, List, [], ◌∷◌, ◌++◌, length, Option, Some, None, Result, Ok, Err, refl, sym, ap, subst, ◌∙◌, arith}
+use Rattle.std.proofs.Common.{◌≡◌, ◌≢◌, inl, inr, ⊎_elim, ℕ, ◌+◌, ◌<◌, ◌≤◌, Bool, true, false, List, [], ◌∷◌, ◌++◌, length, Option, Some, None, IsTrue, Result, Ok, Err, refl, sym, ap, subst, ◌∙◌, arith}
 use Rattle.std.specs.Prelude.{slice_get}
 use Rattle.std.specs.declared.cmp.Ordering.TheVariants.{Less, Greater}
 use Rattle.std.specs.Cmp.{nat_cmp_is}
@@ -20,13 +20,20 @@ use Rattle.fal_base.specs.declared.event.Note.{Note}
 use Rattle.fal_base.specs.declared.event.Note.TheVariants as note
 use Rattle.fal_base.specs.declared.event.Output.{Output}
 use Rattle.fal_base.specs.declared.event.Point.TheVariants.{Here, Carried}
+use Rattle.fal_base.specs.declared.op.Op.{Op}
+use Rattle.fal_base.specs.declared.op.Op.TheVariants as op
+use Rattle.fal_base.specs.declared.path.PathArg.{PathArg}
+use Rattle.fal_base.specs.declared.path.PathArg.TheVariants.{Good, Bad}
 use Rattle.fal_base.specs.declared.path.PathFault.{PathFault}
+use Rattle.fal_base.specs.OpPaths.{bad_path}
 use Rattle.fal_base.specs.declared.reply.Reply.{Reply}
 use Rattle.fal_base.specs.declared.reply.Reply.TheVariants.{Fail}
 use Rattle.fal_base.specs.Answer.{errno_of}
 use Rattle.fal_client.specs.declared.current.Current.{Current}
 use Rattle.fal_client.specs.declared.event.ClientEvent.TheVariants as client
-use Rattle.fal_client.specs.Paths.{addressee}
+use Rattle.fal_client.specs.Paths.{addressee, node_for}
+use Rattle.fal_coord.specs.Walks.{is_operation}
+use Rattle.fal_place.specs.Placement.{route}
 use Rattle.fal_client.specs.State.{ClientState, Work as ClientWork, unchanged}
 use Rattle.fal_client.specs.Step.{client_step, begun, skipped, answered, taken, first_try, letter_to, id_at}
 use Rattle.fal_base.specs.declared.mark.Mark.{Mark}
@@ -37,25 +44,26 @@ use Rattle.fal_wire.specs.declared.message.Message.TheVariants as message
 use Rattle.fal_wire.specs.Messages.{Fits, reading}
 use Rattle.fal_wire.proofs.ReadingLaws.{spelled_reads}
 use Rattle.fal_wire.specs.Letters.{output_of}
-use Rattle.fal_story.proofs.Drain.Follow.{IsUnder, Asked, IsBusy, IsFollowed, passed_on, IsTold, IsOver, told_more, under_more}
+use Rattle.fal_story.proofs.Drain.Follow.{IsUnder, Asked, marks_in, IsBusy, IsFollowed, passed_on, IsTold, IsOver, told_more, under_more}
 use Rattle.fal_story.proofs.Drain.Moving.{IsMoving}
 use Rattle.fal_story.proofs.Drain.MovingClient.{AfterClient, next_call}
-use Rattle.fal_story.proofs.Drain.MovingDeliver.{post_at}
-use Rattle.fal_story.proofs.Drain.MovingGather.{slice_get_back}
-use Rattle.fal_story.proofs.Drain.MovingServe.{posts_long}
+use Rattle.fal_story.proofs.Drain.Actors.{route_there}
+use Rattle.fal_story.proofs.Drain.MovingDeliver.{post_at, same_node}
+use Rattle.fal_story.proofs.Drain.Sent.{slice_get_back, posts_long}
 use Rattle.fal_story.proofs.Events.ClientEvent.{call_is, served_at}
 use Rattle.fal_story.proofs.Events.EnabledClient.{sends, gets, gets_own, IsUnheard}
 use Rattle.fal_story.proofs.Events.Shows.{Ghost, Shows, post_of, posts_of}
 use Rattle.fal_story.proofs.Lists.Grown.{tells, put_all, put_other, slice_get_end}
 use Rattle.fal_story.proofs.View.{Post, post, seat}
-use Rattle.fal_story.specs.Clusters.{IsCluster}
+use Rattle.fal_story.proofs.Trees.Standing.{table_of}
+use Rattle.fal_story.specs.Clusters.{IsCluster, is_served}
 use Rattle.fal_story.specs.World.{World, put, posted, envelopes_of, entries_of}
 
 -- a client's event, by what it does to its own call and to those of others
 client_follows : (config : Config) (w : World) (came later : ℕ → Bool) (l : ℕ) (c : ClientState) (sent : List Output) (notes : List Note) (more : List Post) → IsFollowed w came
     → posts_of (envelopes_of (Client l) w.events (length w.commits) sent) ≡ more
-    → ((current : Current) → c.current ≡ Some current → IsBusy (posts_of w.envelopes ++ more) later w.nodes (id_at l c.seq current.attempt))
-    → ((id : CallId) → id.client ≢ l → IsUnder (posts_of w.envelopes) came w.nodes id → IsUnder (posts_of w.envelopes ++ more) later w.nodes id)
+    → ((current : Current) → c.current ≡ Some current → IsBusy (posts_of w.envelopes ++ more) later (marks_in w) w.nodes w.coord (id_at l c.seq current.attempt))
+    → ((id : CallId) → id.client ≢ l → IsUnder (posts_of w.envelopes) came (marks_in w) w.nodes w.coord id → IsUnder (posts_of w.envelopes ++ more) later (marks_in w) w.nodes w.coord id)
     → ((s : ℕ) → 0 < s → IsOver c s → IsTold (w.entries ++ entries_of (length w.commits) notes) l s) → (w.clients l).seq ≤ c.seq
     → IsFollowed (posted config (record w { clients = put w.clients l c }) (Client l) sent notes) later
 unfolding posted
@@ -63,12 +71,12 @@ client_follows config w came later l c sent notes more f is own others over grow
     let es = envelopes_of (Client l) w.events (length w.commits) sent in
     let posts : posts_of (w.envelopes ++ es) ≡ posts_of w.envelopes ++ more = map-append (λ e. post_of e) w.envelopes es ∙ ap (λ ps. posts_of w.envelopes ++ ps) is in
     record {
-      busy = subst (λ ps. (i : ℕ) (current : Current) → (put w.clients l c i).current ≡ Some current → IsBusy ps later w.nodes (id_at i (put w.clients l c i).seq current.attempt)) (sym posts)
-          (put_all (λ i x. (current : Current) → x.current ≡ Some current → IsBusy (posts_of w.envelopes ++ more) later w.nodes (id_at i x.seq current.attempt)) w.clients l c own
+      busy = subst (λ ps. (i : ℕ) (current : Current) → (put w.clients l c i).current ≡ Some current → IsBusy ps later (marks_in w) w.nodes w.coord (id_at i (put w.clients l c i).seq current.attempt)) (sym posts)
+          (put_all (λ i x. (current : Current) → x.current ≡ Some current → IsBusy (posts_of w.envelopes ++ more) later (marks_in w) w.nodes w.coord (id_at i x.seq current.attempt)) w.clients l c own
           (λ i ne current at. let b = f.busy i current at in record { hop = b.hop; under = others (passed_on (id_at i (w.clients i).seq current.attempt) b.hop) ne b.under; newest = b.newest }));
       over = put_all (λ i x. (s : ℕ) → 0 < s → IsOver x s → IsTold (w.entries ++ entries_of (length w.commits) notes) i s) w.clients l c over
           (λ i _ s some at. told_more w.entries (entries_of (length w.commits) notes) i s (f.over i s some at));
-      marks = λ n i m at. put_all (λ j x. last_mark (w.nodes n).waiting.last j ≡ Some m → m.seq ≤ x.seq) w.clients l c (λ z. let low = f.marks n l m z in omega arith) (λ j _ z. f.marks n j m z) i at;
+      marks = λ n i m at. put_all (λ j x. last_mark (marks_in w n) j ≡ Some m → m.seq ≤ x.seq) w.clients l c (λ z. let low = f.marks n l m z in omega arith) (λ j _ z. f.marks n j m z) i at;
       batches = f.batches;
     }
 
@@ -99,6 +107,31 @@ before_next w came l s f none some low =
     below : (s q : ℕ) → s < q + 1 → s ≢ q → s < q
     below s q low ne = ⊎_elim (λ t. absurd (ne t.1)) (λ t. grind (arith, nat_tests)) (tells s q)
 
+-- a node that is there does not sit where the coordinator does
+no_node : (config : Config) (path : PathArg) (n : ℕ) → IsCluster config → seat (node_for (table_of config) path) ≡ Node n → n ≡ 255 → ⊥
+no_node config (Good names) n cluster to own = let there = route_there config names cluster in let few = cluster.few_nodes in let here : route (table_of config) names ≡ n = same_node (route (table_of config) names) n to in omega arith
+no_node config (Bad fault raw) n cluster to own = let here : 0 ≡ n = same_node 0 n to in omega arith
+
+-- what a client sends to the coordinator is an operation
+sent_suited : (config : Config) (call : Op) (n : ℕ) → IsCluster config → IsTrue (is_served call) → bad_path call ≡ None → seat (addressee (table_of config) call) ≡ Node n → n ≡ 255 → IsTrue (is_operation call)
+unfolding addressee bad_path
+sent_suited config (op.Mkdir path mode) n cluster served good to own = absurd (no_node config path n cluster to own)
+sent_suited config (op.Create path mode) n cluster served good to own = absurd (no_node config path n cluster to own)
+sent_suited config (op.Stat path) n cluster served good to own = absurd (no_node config path n cluster to own)
+sent_suited config (op.Access path want) n cluster served good to own = absurd (no_node config path n cluster to own)
+sent_suited config (op.Chmod path mode) n cluster served good to own = absurd (no_node config path n cluster to own)
+sent_suited config (op.Chown path uid gid) n cluster served good to own = absurd (no_node config path n cluster to own)
+sent_suited config (op.Truncate path size) n cluster served good to own = absurd (no_node config path n cluster to own)
+sent_suited config (op.Unlink path) n cluster served good to own = absurd (no_node config path n cluster to own)
+sent_suited config (op.Rmdir (Good path)) n cluster served good to own = refl
+sent_suited config (op.Rmdir (Bad fault raw)) n cluster served good to own = absurd (cc)
+sent_suited config (op.Rename (Good old) (Good new)) n cluster served good to own = refl
+sent_suited config (op.Rename (Good old) (Bad fault raw)) n cluster served good to own = absurd (cc)
+sent_suited config (op.Rename (Bad fault raw) (Good new)) n cluster served good to own = absurd (cc)
+sent_suited config (op.Rename (Bad fault raw) (Bad cause bytes)) n cluster served good to own = absurd (cc)
+sent_suited config (op.List path) n cluster served good to own = absurd (cc)
+sent_suited config (op.Place name rule) n cluster served good to own = absurd (cc)
+
 skips : (config : Config) (w : World) (came : ℕ → Bool) (l : ℕ) (h : Ghost) (call : Call) (fault : PathFault) → Shows config w h → IsFollowed w came → (w.clients l).current ≡ None
     → IsFollowed (AfterClient config w l (skipped (w.clients l) fault)) came
 unfolding skipped
@@ -107,7 +140,7 @@ skips config w came l h call fault s f none =
     let notes = note.Sent c.lane (c.seq + 1) ∷ note.Answered c.lane (c.seq + 1) (Here 0) (Fail (errno_of fault)) ∷ [] in
     client_follows config w came came l (taken c) [] notes [] f refl
     (λ current e. absurd (cc))
-    (λ id ne under. under_more (posts_of w.envelopes) [] came came w.nodes id (λ k n p d at fresh. fresh) (λ k p reply at fresh. fresh) under)
+    (λ id ne under. under_more (posts_of w.envelopes) [] came came (marks_in w) w.nodes w.coord id (λ k n p d at fresh. fresh) (λ k p reply at fresh. fresh) under)
     (λ q some at.
     ⊎_elim
     (λ low. told_more w.entries (entries_of (length w.commits) notes) l q (before_next w came l q f none some low))
@@ -119,9 +152,9 @@ skips config w came l h call fault s f none =
     (omega arith)
 
 begins : (config : Config) (w : World) (came : ℕ → Bool) (l : ℕ) (h : Ghost) (call : Call) → IsCluster config → Shows config w h → IsMoving config w came → IsFollowed w came → (w.clients l).current ≡ None
-    → slice_get (w.clients l).left 0 ≡ Some call → All (λ y. Fits y.message) (begun (w.clients l) call).sent → IsFollowed (AfterClient config w l (begun (w.clients l) call)) came
+    → slice_get (w.clients l).left 0 ≡ Some call → bad_path call.op ≡ None → All (λ y. Fits y.message) (begun (w.clients l) call).sent → IsFollowed (AfterClient config w l (begun (w.clients l) call)) came
 unfolding begun output_of
-begins config w came l h call cluster s m f none left fit =
+begins config w came l h call cluster s m f none left good fit =
     let c = w.clients l in
     let called = record_of c call in
     let to = served_at c.table call.op (call_is config l (c.seq + 1) call cluster (next_call config w l h call s left)).served in
@@ -129,18 +162,19 @@ begins config w came l h call cluster s m f none left fit =
     let notes = note.Sent c.lane (c.seq + 1) ∷ [] in
     let new : Post = post (Node to.0) (length w.commits + 0) (message.Call called) in
     let posts : posts_of (envelopes_of (Client l) w.events (length w.commits) (output_of message_sent ∷ [])) ≡ new ∷ [] =
-    (λ i. record { to = seat (to.1 i); point = length w.commits + 0; message = result_ok (spelled_reads (message.Call called) (fit 0 message_sent (omega arith)) i) } ∷ []) in
+    (λ i. record { to = to.1 i; point = length w.commits + 0; message = result_ok (spelled_reads (message.Call called) (fit 0 message_sent (omega arith)) i) } ∷ []) in
     let long = posts_long w.envelopes in
     let k : ℕ = length (posts_of w.envelopes) in
     let id_is : called.id ≡ id_at l (c.seq + 1) 1 = ap (λ i. id_at i (c.seq + 1) 1) (s.heard l).lane in
     client_follows config w came came l (record (taken c) { current = Some (first_try call) }) (output_of message_sent ∷ []) notes (new ∷ []) f posts
-    (λ current e. subst (λ (x : Current). IsBusy (posts_of w.envelopes ++ new ∷ []) came w.nodes (id_at l (c.seq + 1) x.attempt)) (same_Some (first_try call) current e) (record {
+    (λ current e. subst (λ (x : Current). IsBusy (posts_of w.envelopes ++ new ∷ []) came (marks_in w) w.nodes w.coord (id_at l (c.seq + 1) x.attempt)) (same_Some (first_try call) current e) (record {
       hop = 0;
       under = Asked k (length w.commits + 0) to.0 called (slice_get_end (posts_of w.envelopes) new) (m.past k (omega arith)) id_is
-          (newer_than (mark_of (id_at l (c.seq + 1) 1)) (last_mark (w.nodes to.0).waiting.last l) (λ b is. let low = f.marks to.0 l b is in omega arith));
+          (newer_than (mark_of (id_at l (c.seq + 1) 1)) (last_mark (marks_in w to.0) l) (λ b is. let low = f.marks to.0 l b is in omega arith))
+          (sent_suited config call.op to.0 cluster (call_is config l (c.seq + 1) call cluster (next_call config w l h call s left)).served good (ap (λ t. seat (addressee t call.op)) (sym (s.heard l).table) ∙ to.1));
       newest = λ i b is. older_seq b (mark_of (id_at l (c.seq + 1) 1)) (let low = f.marks i l b is in omega arith);
     }))
-    (λ id ne under. under_more (posts_of w.envelopes) (new ∷ []) came came w.nodes id (λ j n p d at fresh. fresh) (λ j p reply at fresh. fresh) under)
+    (λ id ne under. under_more (posts_of w.envelopes) (new ∷ []) came came (marks_in w) w.nodes w.coord id (λ j n p d at fresh. fresh) (λ j p reply at fresh. fresh) under)
     (λ q some at.
     ⊎_elim
     (λ low. told_more w.entries (entries_of (length w.commits) notes) l q (before_next w came l q f none some low))
@@ -152,7 +186,7 @@ pub send_follows : (config : Config) (w : World) (came : ℕ → Bool) (l : ℕ)
     → All (λ y. Fits y.message) m.sent → IsFollowed (AfterClient config w l m) came
 send_follows config w came l h m cluster s moving f is =
     sends (w.clients l) m (λ y. All (λ z. Fits z.message) y.sent → IsFollowed (AfterClient config w l y) came)
-    (λ call none left good fit. begins config w came l h call cluster s moving f none left fit)
+    (λ call none left good fit. begins config w came l h call cluster s moving f none left good fit)
     (λ call fault none left bad fit. skips config w came l h call fault s f none)
     is
 
@@ -164,9 +198,9 @@ read_is (Err fault) m e = absurd (cc)
 
 -- the calls of which the answer did not come now
 still_under : (w : World) (came : ℕ → Bool) (l number : ℕ) (x : Envelope) (id : CallId) → slice_get w.envelopes number ≡ Some x → x.to ≡ Client l
-    → ((reply : Reply) → id.client ≡ l → reading x.bytes ≡ Ok (message.Reply id reply) → ⊥) → IsUnder (posts_of w.envelopes) came w.nodes id → IsUnder (posts_of w.envelopes ++ []) (put came number true) w.nodes id
+    → ((reply : Reply) → id.client ≡ l → reading x.bytes ≡ Ok (message.Reply id reply) → ⊥) → IsUnder (posts_of w.envelopes) came (marks_in w) w.nodes w.coord id → IsUnder (posts_of w.envelopes ++ []) (put came number true) (marks_in w) w.nodes w.coord id
 still_under w came l number x id at to unheard under =
-    under_more (posts_of w.envelopes) [] came (put came number true) w.nodes id
+    under_more (posts_of w.envelopes) [] came (put came number true) (marks_in w) w.nodes w.coord id
     (λ k n p d there fresh.
     ⊎_elim
     (λ t. let same = same_post k (post (Node n) p (message.Call d)) t.1 there in let wrong : Client l ≡ Node n = sym (ap seat to) ∙ ap (λ (z : Post). z.to) same in absurd (cc))

@@ -1,5 +1,5 @@
 -- Each call under way is found after a node gathers: a free call joins the batch, or waits on.
-use Rattle.std.proofs.Common.{◌≡◌, ◌⊎◌, inl, inr, ⊎_elim, ℕ, ◌+◌, ◌<◌, Bool, true, false, List, [], ◌∷◌, ◌++◌, length, sym, ap, subst, ◌∙◌, arith}
+use Rattle.std.proofs.Common.{◌≡◌, ◌≢◌, ◌⊎◌, inl, inr, ⊎_elim, ℕ, ◌+◌, ◌<◌, Bool, true, false, List, [], ◌∷◌, ◌++◌, length, sym, ap, subst, ◌∙◌, arith}
 use Rattle.std.specs.List.{All}
 use Rattle.fal_base.specs.declared.call.CallRec.{CallRec}
 use Rattle.fal_base.specs.declared.call.Config.{Config}
@@ -14,8 +14,8 @@ use Rattle.fal_wait.specs.declared.waiting_call.WaitingCall.{WaitingCall}
 use Rattle.fal_base.specs.Marks.{mark_of, last_mark, is_newer}
 use Rattle.fal_wait.specs.Waiting.{WaitList}
 use Rattle.fal_wire.specs.Messages.{Fits}
-use Rattle.fal_story.proofs.Drain.Follow.{IsFollowed, IsNumbered, under_node, waiting_now, planned_now, asked_now}
-use Rattle.fal_story.proofs.Drain.FollowNode.{node_follows, marks_stay}
+use Rattle.fal_story.proofs.Drain.Follow.{marks_in, IsFollowed, IsNumbered, under_node, waiting_now, planned_now, asked_now}
+use Rattle.fal_story.proofs.Drain.FollowNode.{IsUnderAfter, marks_at, node_follows, marks_stay}
 use Rattle.fal_story.proofs.Drain.MovingGather.{batch_waiting}
 use Rattle.fal_story.proofs.Drain.MovingServe.{After}
 use Rattle.fal_story.proofs.Events.Going.{fates_stay}
@@ -26,7 +26,7 @@ use Rattle.fal_story.proofs.Lists.GatherLists.{IsMet, leavers, gathered_node, no
 use Rattle.fal_story.proofs.Lists.OpenedFetches.{bound_call, pending_of}
 use Rattle.fal_story.proofs.Lists.Joined.{in_back}
 use Rattle.fal_story.proofs.Lists.Members.{IsIn, each_in, in_front, in_join, apart_push}
-use Rattle.fal_story.specs.World.{World}
+use Rattle.fal_story.specs.World.{World, put}
 
 -- ---- the calls of the batch
 
@@ -70,15 +70,15 @@ found_after node x tidy none at =
     (λ away. ⊎_elim (λ joins. inr joins) (λ leaves. absurd (subst (λ aways. IsIn leaves.0 (leavers list aways)) none leaves.1.0)) away)
     (each_in (IsMet s opened (without_calls (with_fetches list plan.fetches) (leaving plan)).calls (batch_calls list plan.calls) (leavers list plan.away)) list.calls x (gathered_node node tidy).all at)
 
-pub gather_follows : (config : Config) (w : World) (came : ℕ → Bool) (n : ℕ) (h : Ghost) → n < config.nodes → Shows config w h → IsFollowed w came → All (λ (l : Letter). Fits l.message) (gathered (w.nodes n) (plan_at (w.nodes n))).sent
+pub gather_follows : (config : Config) (w : World) (came : ℕ → Bool) (n : ℕ) (h : Ghost) → n < config.nodes → n ≢ 255 → Shows config w h → IsFollowed w came → All (λ (l : Letter). Fits l.message) (gathered (w.nodes n) (plan_at (w.nodes n))).sent
     → IsFollowed (After config w n (gathered (w.nodes n) (plan_at (w.nodes n)))) came
 unfolding gathered with_waiting
-gather_follows config w came n h there s f fit =
+gather_follows config w came n h there other s f fit =
     let node = w.nodes n in
     let plan = plan_at node in
     let k = gathered node plan in
     let tidy = (s.placed n).tidy in
-    let away = none_leave node tidy (fates_stay config w n h there s) in
+    let away = none_leave node tidy (fates_stay config w n h there other s) in
     let inner = with_waiting node plan.fetches (leaving plan) in
     let calls = batch_calls node.waiting plan.calls in
     let waiting : k.node.waiting ≡ without_calls (with_fetches node.waiting plan.fetches) (leaving plan) = batch_waiting inner calls plan.keys in
@@ -86,16 +86,18 @@ gather_follows config w came n h there s f fit =
     let marks_same = ap (λ (l : WaitList). l.last) waiting ∙ last in
     let more = letter_posts (length w.commits) k.sent in
     let posts = posts_of w.envelopes in
-    node_follows config w came came n k fit f
+    let taken = put (marks_in w) n k.node.waiting.last in
+    node_follows config w came came n k other fit f
     (λ id under.
-    under_node posts more came came w.nodes n k.node id (λ i y there ne fresh. fresh)
-    (λ i p call there fresh same newer. asked_now posts more came w.nodes n i p k.node id call there fresh same (subst (λ ms. is_newer (mark_of id) (last_mark ms id.client) ≡ true) (sym marks_same) newer))
+    under_node posts more came came (marks_in w) w.nodes w.coord n k.node id (IsUnderAfter w came n k id) (marks_at w n other) (λ u. u) (λ i y there ne fresh. fresh)
+    (λ i p call there fresh same newer suited.
+    asked_now posts more came (marks_in w) (put w.nodes n k.node) w.coord n i p k.node.waiting.last id call there fresh same (subst (λ ms. is_newer (mark_of id) (last_mark ms id.client) ≡ true) (sym marks_same) newer) suited)
     (λ y there same.
     ⊎_elim
-    (λ z. waiting_now (posts ++ more) came w.nodes n k.node id z.0 (subst (λ (g : WaitList). IsIn z.0 g.calls) (sym waiting) z.1.0) (ap (λ (c : CallRec). c.id) z.1.1 ∙ same))
-    (λ z. planned_now (posts ++ more) came w.nodes n k.node id z.0 (batched_calls inner calls plan.keys z.0 (inr z.1.0)) (ap (λ (c : CallRec). c.id) z.1.1 ∙ same))
+    (λ z. waiting_now (posts ++ more) came taken w.nodes w.coord n k.node id z.0 (subst (λ (g : WaitList). IsIn z.0 g.calls) (sym waiting) z.1.0) (ap (λ (c : CallRec). c.id) z.1.1 ∙ same))
+    (λ z. planned_now (posts ++ more) came taken w.nodes w.coord n k.node id z.0 (batched_calls inner calls plan.keys z.0 (inr z.1.0)) (ap (λ (c : CallRec). c.id) z.1.1 ∙ same))
     (found_after node y tidy away there))
-    (λ y there same. planned_now (posts ++ more) came w.nodes n k.node id y (batched_calls inner calls plan.keys y (inl there)) same)
+    (λ y there same. planned_now (posts ++ more) came taken w.nodes w.coord n k.node id y (batched_calls inner calls plan.keys y (inl there)) same)
     under)
-    (marks_stay w came n k.node.waiting.last f marks_same)
+    (marks_stay w came n k.node.waiting.last f (marks_same ∙ sym (marks_at w n other)))
     (batched_numbered inner calls plan.keys (record { apart = (f.batches n).apart; below = (f.batches n).below }))

@@ -1,34 +1,53 @@
 -- The call that is under way is the ghost's.
-use Rattle.std.proofs.Common.{◌≡◌, ⊎_elim, ℕ, Bool, true, sym, ap, subst, ◌∙◌, arith}
+use Rattle.std.proofs.Common.{◌≡◌, ⊎_elim, ℕ, Bool, true, ◌++◌, sym, ap, subst, ◌∙◌, arith}
 use Rattle.fal_base.specs.declared.call.CallId.{CallId}
 use Rattle.fal_base.specs.declared.call.CallRec.{CallRec}
 use Rattle.fal_base.specs.declared.call.Config.{Config}
 use Rattle.fal_base.specs.declared.event.Actor.TheVariants.{Node}
 use Rattle.fal_base.specs.Marks.{mark_of, last_mark, is_newer}
-use Rattle.fal_wait.specs.Waiting.{is_new}
+use Rattle.fal_coord.specs.declared.stage.Stage.{Stage}
+use Rattle.fal_coord.specs.declared.stage.Stage.TheVariants as stage
 use Rattle.fal_wire.specs.declared.message.Message.TheVariants as message
-use Rattle.fal_story.proofs.Drain.Follow.{IsUnder, Asked, Waiting, Planned, Answered}
-use Rattle.fal_story.proofs.Events.Shows.{Ghost, Shows, WaitsAt, PlannedAt, calls_in, posts_of}
-use Rattle.fal_story.proofs.Lists.Members.{each_in}
+use Rattle.fal_story.proofs.Drain.Follow.{IsUnder, Asked, Waiting, Planned, Hosted, Answered, calls_of, hosted, marks_in}
+use Rattle.fal_story.proofs.Events.Shows.{Ghost, Shows, IsCurrent, WaitsAt, WaitsThere, PlannedAt, calls_in, posts_of}
+use Rattle.fal_story.proofs.Lists.Members.{IsIn, each_in}
 use Rattle.fal_story.proofs.Phase as place
 use Rattle.fal_story.proofs.View.{IsPosted}
 use Rattle.fal_story.specs.World.{World}
 
 -- a record that is newer is that of the call under way
-pub asked_by : (config : Config) (w : World) (n : ℕ) (h : Ghost) (e p : ℕ) (c : CallRec) → Shows config w h → IsPosted (posts_of w.envelopes) e (Node n) p (message.Call c) → is_new (w.nodes n).waiting c ≡ true
+pub asked_by : (config : Config) (w : World) (n : ℕ) (h : Ghost) (e p : ℕ) (c : CallRec) → Shows config w h → IsPosted (posts_of w.envelopes) e (Node n) p (message.Call c) → is_newer (mark_of c.id) (last_mark (marks_in w n) c.id.client) ≡ true
     → (c ≡ h.call c.id.client) × (h.phase c.id.client ≡ place.Asked n)
 asked_by config w n h e p c s at newer = ⊎_elim (λ y. y) (λ old. absurd (cc)) (s.good.records.requests e n p c at)
 
--- a lane's last call that is under way, while its record to a node was not taken yet
-pub live_is : (config : Config) (w : World) (came : ℕ → Bool) (n : ℕ) (h : Ghost) (id : CallId) → Shows config w h → IsUnder (posts_of w.envelopes) came w.nodes id → id.seq ≡ (w.clients id.client).seq
+-- a call that the coordinator keeps is its lane's
+pub hosted_is : (config : Config) (w : World) (h : Ghost) (c : CallRec) → Shows config w h → IsIn c (hosted w.coord) → c ≡ h.call c.id.client
+hosted_is config w h c s at = by_stage w.coord.stage s.beside.hosts.current at
+  where
+    waiter : IsIn c w.coord.waiting → c ≡ h.call c.id.client
+    waiter here = (each_in (WaitsThere h.call h.phase) w.coord.waiting c s.beside.hosts.waiters here).1
+
+    this : (d : CallRec) → d ≡ h.call d.id.client → d ≡ c → c ≡ h.call c.id.client
+    this d is same = subst (λ (k : CallRec). k ≡ h.call k.id.client) same is
+
+    by_stage : (t : Stage) → IsCurrent h.call h.phase t → IsIn c (calls_of t ++ w.coord.waiting) → c ≡ h.call c.id.client
+    by_stage stage.Idle current here = waiter here
+    by_stage (stage.Walk call fetch key) current here = ⊎_elim (λ same. this call current.0 same) waiter here
+    by_stage (stage.Lock operation missing rows) current here = ⊎_elim (λ same. this operation.call current.0 same) waiter here
+    by_stage (stage.Count operation rows dir updates missing counts) current here = ⊎_elim (λ same. this operation.call current.0 same) waiter here
+    by_stage (stage.Finish keys updates missing) current here = waiter here
+
+-- a lane's last call that is under way, while its record to an actor was not taken yet
+pub live_is : (config : Config) (w : World) (came : ℕ → Bool) (n : ℕ) (h : Ghost) (id : CallId) → Shows config w h → IsUnder (posts_of w.envelopes) came (marks_in w) w.nodes w.coord id → id.seq ≡ (w.clients id.client).seq
     → h.phase id.client ≡ place.Asked n → id ≡ (h.call id.client).id
-live_is config w came n h id s (Asked k p m call at fresh is newer) last asked =
-    let new : is_new (w.nodes m).waiting call ≡ true = subst (λ (j : CallId). is_newer (mark_of j) (last_mark (w.nodes m).waiting.last j.client) ≡ true) (sym is) newer in
+live_is config w came n h id s (Asked k p m call at fresh is newer suited) last asked =
+    let new = subst (λ (j : CallId). is_newer (mark_of j) (last_mark (marks_in w m) j.client) ≡ true) (sym is) newer in
     sym is ∙ ap (λ (c : CallRec). c.id) (asked_by config w m h k p call s at new).0 ∙ ap (λ (j : CallId). (h.call j.client).id) is
 live_is config w came n h id s (Waiting m x at is) last asked =
     sym is ∙ ap (λ (c : CallRec). c.id) (each_in (WaitsAt h.call h.phase m) (w.nodes m).waiting.calls x (s.held m).waiters at).1 ∙ ap (λ (j : CallId). (h.call j.client).id) is
 live_is config w came n h id s (Planned m x at is) last asked =
     sym is ∙ ap (λ (c : CallRec). c.id) (each_in (PlannedAt h.call h.phase m) (calls_in (w.nodes m).batches) x (s.held m).planned at).1 ∙ ap (λ (j : CallId). (h.call j.client).id) is
+live_is config w came n h id s (Hosted c at is) last asked = sym is ∙ ap (λ (c : CallRec). c.id) (hosted_is config w h c s at) ∙ ap (λ (j : CallId). (h.call j.client).id) is
 live_is config w came n h id s (Answered k p reply at fresh) last asked =
     absurd (⊎_elim
     (λ low. omega arith)

@@ -14,7 +14,9 @@ use Rattle.fal_client.specs.Step.{client_step, begun, skipped, answered}
 use Rattle.fal_story.proofs.Drain.Actors.{IsActor, served_there}
 use Rattle.fal_story.proofs.Drain.Moving.{IsMoving, items_in, client_moves}
 use Rattle.fal_story.proofs.Drain.MovingDeliver.{post_at, came_past}
+use Rattle.fal_story.proofs.Drain.Fresh.{IsFresh, fresh_comes}
 use Rattle.fal_story.proofs.Drain.OnWay.{IsOnWay, way_comes}
+use Rattle.fal_story.proofs.Drain.Staged.{AreFreshStill, still_here}
 use Rattle.fal_story.proofs.Events.ClientEvent.{call_is}
 use Rattle.fal_story.proofs.Events.EnabledClient.{sends, gets, gets_own}
 use Rattle.fal_story.proofs.Events.Shows.{Ghost, Shows, post_of, posts_of}
@@ -41,8 +43,8 @@ send_moves config w came l h m cluster s moving is =
     (λ call none left good.
     let served = (call_is config l (c.seq + 1) call cluster (next_call config w l h call s left)).served in
     client_moves config w came came l (begun c call).client (Client l) (map output_of (begun c call).sent) (begun c call).notes moving moving.past
-    (subst (λ t. IsActor config (addressee t call.op)) (sym (s.heard l).table) (served_there config call.op cluster served), tt) (λ n f o. o))
-    (λ call fault none left bad. client_moves config w came came l (skipped c fault).client (Client l) [] (skipped c fault).notes moving moving.past tt (λ n f o. o))
+    (subst (λ t. IsActor config (addressee t call.op)) (sym (s.heard l).table) (served_there config call.op cluster served), tt) (λ n f o. o) (λ n. still_here (posts_of w.envelopes) came n))
+    (λ call fault none left bad. client_moves config w came came l (skipped c fault).client (Client l) [] (skipped c fault).notes moving moving.past tt (λ n f o. o) (λ n. still_here (posts_of w.envelopes) came n))
     is
 
 pub get_moves : (config : Config) (w : World) (came : ℕ → Bool) (l number : ℕ) (h : Ghost) (x : Envelope) (m : ClientWork) → Shows config w h → IsMoving config w came → slice_get w.envelopes number ≡ Some x
@@ -58,7 +60,13 @@ get_moves config w came l number h x m s moving at is =
     (λ p key what e. let wrong : Client c.lane ≡ Node n = sym (ap seat own) ∙ ap (λ (z : Post). z.to) e in absurd (cc))
     o in
     let past = came_past w.envelopes number x came at moving.past in
+    let fresh : (n : ℕ) → AreFreshStill (posts_of w.envelopes) (posts_of w.envelopes) came (put came number true) n = λ n. record {
+      to = λ m is f. fresh_comes (posts_of w.envelopes) came number (post_of x) (Node n) m (IsFresh (posts_of w.envelopes) (put came number true) (Node n) m) (post_at w.envelopes number x at) (λ still. still)
+          (λ p e. let wrong : Client c.lane ≡ Node n = sym (ap seat own) ∙ ap (λ (z : Post). z.to) e in absurd (cc)) f;
+      back = λ m is f. fresh_comes (posts_of w.envelopes) came number (post_of x) (Node 255) m (IsFresh (posts_of w.envelopes) (put came number true) (Node 255) m) (post_at w.envelopes number x at) (λ still. still)
+          (λ p e. let wrong : Client c.lane ≡ Node 255 = sym (ap seat own) ∙ ap (λ (z : Post). z.to) e in absurd (cc)) f;
+    } in
     gets config w l number h x m (λ y. IsMoving config (AfterClient config w l y) (put came number true)) s at
-    (λ _. client_moves config w came (put came number true) l c (Client l) [] [] moving past tt ways)
-    (λ id reply current a. client_moves config w came (put came number true) l (answered c x.point reply).client (Client l) [] (answered c x.point reply).notes moving past tt ways)
+    (λ _. client_moves config w came (put came number true) l c (Client l) [] [] moving past tt ways fresh)
+    (λ id reply current a. client_moves config w came (put came number true) l (answered c x.point reply).client (Client l) [] (answered c x.point reply).notes moving past tt ways fresh)
     is

@@ -10,6 +10,7 @@ use Rattle.fal_base.specs.declared.event.Actor.TheVariants.{Node}
 use Rattle.fal_base.specs.declared.event.Envelope.{Envelope}
 use Rattle.fal_base.specs.declared.key.Key.{Key}
 use Rattle.fal_exec.specs.RowCall.{row_names}
+use Rattle.fal_locks.specs.Locks.{LockTable}
 use Rattle.fal_wire.specs.declared.letter.Letter.{Letter}
 use Rattle.fal_node.specs.declared.item.Item.{Item}
 use Rattle.fal_node.specs.Deliver.{admitted, take_call}
@@ -22,13 +23,15 @@ use Rattle.fal_wire.specs.declared.message.Message.{Message}
 use Rattle.fal_wire.specs.declared.message.Message.TheVariants as message
 use Rattle.fal_wire.specs.Messages.{Fits, reading}
 use Rattle.fal_story.proofs.Drain.Actors.{IsActor}
-use Rattle.fal_story.proofs.Drain.Moving.{IsMoving, IsServable, AreServable, IsPast, items_in, posts_after, items_after, node_moves}
-use Rattle.fal_story.proofs.Drain.MovingServe.{After}
+use Rattle.fal_story.proofs.Drain.Fresh.{IsFresh, fresh_comes}
+use Rattle.fal_story.proofs.Drain.Moving.{IsMoving, IsServable, AreServable, AreOfBatches, StaysHearing, IsPast, items_in, posts_after, items_after, node_moves, holders_same}
+use Rattle.fal_story.proofs.Drain.Hearing.{After}
 use Rattle.fal_story.proofs.Drain.OnWay.{IsOnWay, Keeps, AreOnWay, items_stay, way_more, way_comes}
+use Rattle.fal_story.proofs.Drain.Staged.{IsHearing, IsOrder, AreFreshStill, hearing_kept, still_more}
 use Rattle.fal_story.proofs.Events.InStep.{letter_posts}
 use Rattle.fal_story.proofs.Events.Shows.{post_of, posts_of}
 use Rattle.fal_story.proofs.Lists.Each.{Each, each_weaker, each_join}
-use Rattle.fal_story.proofs.Lists.Grown.{tells, put_same, put_other, slice_get_below}
+use Rattle.fal_story.proofs.Lists.Grown.{tells, put_all, put_same, put_other, slice_get_below}
 use Rattle.fal_story.proofs.Lists.Joined.{in_last}
 use Rattle.fal_story.proofs.Lists.Members.{IsIn, in_front}
 use Rattle.fal_story.proofs.View.{Post, seat}
@@ -46,10 +49,10 @@ came_past xs e x came at h k high = let below = slice_get_below xs e x at in put
 message_of : (x : Envelope) (y : Post) (m : Message) → reading x.bytes ≡ Ok m → post_of x ≡ y → Some m ≡ y.message
 message_of x y m read e = sym (ap result_ok read) ∙ ap (λ (z : Post). z.message) e
 
-same_client : (a b : Message) → Some a ≡ Some b → a ≡ b
+pub same_client : (a b : Message) → Some a ≡ Some b → a ≡ b
 same_client a b e = cc
 
-same_node : (a b : ℕ) → Node a ≡ Node b → a ≡ b
+pub same_node : (a b : ℕ) → Node a ≡ Node b → a ≡ b
 same_node a b e = cc
 
 -- an envelope to this node comes
@@ -57,28 +60,80 @@ pub record IsComing (w : World) (n e : ℕ) (x : Envelope) : Type 0 where
   pub at : slice_get w.envelopes e ≡ Some x
   pub to : x.to ≡ Node n
 
+-- what is on the way for the coordinator is so still where a record comes to a node, but of its own order
+pub comes_fresh : (w : World) (came : ℕ → Bool) (n e i : ℕ) (x : Envelope) → n ≢ 255 → IsComing w n e x → ((m : Message) → IsOrder m → i ≡ n → result_ok (reading x.bytes) ≡ Some m → ⊥)
+    → AreFreshStill (posts_of w.envelopes) (posts_of w.envelopes) came (put came e true) i
+comes_fresh w came n e i x other c none = record {
+  to = λ m is at. fresh_comes (posts_of w.envelopes) came e (post_of x) (Node i) m (IsFresh (posts_of w.envelopes) (put came e true) (Node i) m) (post_at w.envelopes e x c.at) (λ still. still)
+      (λ p z. absurd (none m is (same_node i n (sym (ap (λ (y : Post). y.to) z) ∙ ap seat c.to)) (ap (λ (y : Post). y.message) z))) at;
+  back = λ m is at. fresh_comes (posts_of w.envelopes) came e (post_of x) (Node 255) m (IsFresh (posts_of w.envelopes) (put came e true) (Node 255) m) (post_at w.envelopes e x c.at) (λ still. still)
+      (λ p z. absurd (other (sym (same_node 255 n (sym (ap (λ (y : Post). y.to) z) ∙ ap seat c.to))))) at;
+}
+
+pub comes_hearing : (w : World) (came : ℕ → Bool) (n e : ℕ) (x : Envelope) (k : Work) → n ≢ 255 → IsComing w n e x
+    → (IsHearing (posts_of w.envelopes) came w.coord.operation w.coord.stage n (w.nodes n) → IsHearing (posts_after w k) (put came e true) w.coord.operation w.coord.stage n k.node)
+    → StaysHearing w came (put came e true) n k
+comes_hearing w came n e x k other c here m =
+    let old = posts_of w.envelopes in
+    let later = put came e true in
+    put_all (λ i y. IsHearing old came w.coord.operation w.coord.stage i (w.nodes i) → IsHearing (posts_after w k) later w.coord.operation w.coord.stage i y) w.nodes n k.node here
+    (λ i apart. hearing_kept old (posts_after w k) came later w.coord.operation w.coord.stage i (w.nodes i) (w.nodes i)
+    (still_more old old (letter_posts (length w.commits) k.sent) came later i (comes_fresh w came n e i x other c (λ y is same read. apart same))) refl refl) m
+
+-- the record is no order
+abbrev pub IsNoOrder : Envelope → Type 0
+IsNoOrder x = (m : Message) → IsOrder m → result_ok (reading x.bytes) ≡ Some m → ⊥
+
+pub plain_hearing : (w : World) (came : ℕ → Bool) (n e : ℕ) (x : Envelope) (k : Work) → n ≢ 255 → IsComing w n e x → IsNoOrder x → k.node.locks.shut ≡ (w.nodes n).locks.shut → k.node.last_operation ≡ (w.nodes n).last_operation
+    → StaysHearing w came (put came e true) n k
+plain_hearing w came n e x k other c none shut last =
+    let old = posts_of w.envelopes in
+    comes_hearing w came n e x k other c
+    (hearing_kept old (posts_after w k) came (put came e true) w.coord.operation w.coord.stage n (w.nodes n) k.node
+    (still_more old old (letter_posts (length w.commits) k.sent) came (put came e true) n (comes_fresh w came n e n x other c (λ y is same read. none y is read))) shut last)
+
+-- a node is no seat
+pub no_seat : (config : Config) (w : World) (came : ℕ → Bool) (n : ℕ) → n < config.nodes → IsMoving config w came → n ≢ 255
+no_seat config w came n there m same = let few = m.few in omega arith
+
 -- a record that is no question and no answer: what is on the way stays so
 other_ways : (w : World) (came : ℕ → Bool) (n e : ℕ) (x : Envelope) (k : Work) → IsComing w n e x → ((i f : ℕ) (key : Key) → result_ok (reading x.bytes) ≡ Some (message.FetchAsk i f key) → ⊥)
-    → ((f : ℕ) (key : Key) (what : Found) → result_ok (reading x.bytes) ≡ Some (message.FetchGot f key what) → ⊥) → k.node.items ≡ (w.nodes n).items
+    → ((f : ℕ) (key : Key) (what : Found) → result_ok (reading x.bytes) ≡ Some (message.FetchGot f key what) → ⊥) → ((item : Item) → IsIn item (w.nodes n).items → IsIn item k.node.items)
     → (m f : ℕ) → IsOnWay (posts_of w.envelopes) came (items_in w) m f → IsOnWay (posts_after w k) (put came e true) (items_after w n k) m f
-other_ways w came n e x k c no_ask no_got items m f o =
-    way_more (posts_of w.envelopes) (letter_posts (length w.commits) k.sent) (put came e true) (items_in w) (items_after w n k) m f (items_stay w.nodes n k.node (λ item there. subst (IsIn item) (sym items) there))
+other_ways w came n e x k c no_ask no_got kept m f o =
+    way_more (posts_of w.envelopes) (letter_posts (length w.commits) k.sent) (put came e true) (items_in w) (items_after w n k) m f (items_stay w.nodes n k.node kept)
     (way_comes (posts_of w.envelopes) came (items_in w) e (post_of x) m f (IsOnWay (posts_of w.envelopes) (put came e true) (items_in w) m f) (post_at w.envelopes e x c.at)
     (λ still. still)
     (λ p to key is. absurd (no_ask m f key (ap (λ (z : Post). z.message) is)))
     (λ p key what is. absurd (no_got f key what (ap (λ (z : Post). z.message) is)))
     o)
 
--- nothing is sent, and no more calls wait on a fetch
+-- no more calls wait on a fetch, and no item is gone
+pub order_moves : (config : Config) (w : World) (came : ℕ → Bool) (n e : ℕ) (x : Envelope) (k : Work) → n < config.nodes → IsMoving config w came → IsComing w n e x
+    → ((i f : ℕ) (key : Key) → result_ok (reading x.bytes) ≡ Some (message.FetchAsk i f key) → ⊥) → ((f : ℕ) (key : Key) (what : Found) → result_ok (reading x.bytes) ≡ Some (message.FetchGot f key what) → ⊥)
+    → All (λ (l : Letter). Fits l.message) k.sent → Each (λ (l : Letter). IsActor config l.to) k.sent → ((item : Item) → IsIn item (w.nodes n).items → IsIn item k.node.items) → AreServable k.node.items
+    → ((posts : List Post) (later : ℕ → Bool) (items : ℕ → List Item) → AreOnWay posts later items n (w.nodes n).waiting.calls → AreOnWay posts later items n k.node.waiting.calls)
+    → AreOfBatches k.node → StaysHearing w came (put came e true) n k → IsMoving config (After config w n k) (put came e true)
+order_moves config w came n e x k there m c no_ask no_got fit go kept servable calls holders hearing =
+    let ways = other_ways w came n e x k c no_ask no_got kept in
+    node_moves config w came (put came e true) n k there fit m (came_past w.envelopes e x came c.at m.past) go
+    (calls (posts_after w k) (put came e true) (items_after w n k) (each_weaker _ _ (w.nodes n).waiting.calls (λ y h f is. ways n f (h f is)) (m.waits n)))
+    (λ i f _ o. ways i f o) servable holders hearing
+
+-- nothing is sent, and the record is no order
 pub other_moves : (config : Config) (w : World) (came : ℕ → Bool) (n e : ℕ) (x : Envelope) (s : NodeState) → n < config.nodes → IsMoving config w came → IsComing w n e x
     → ((i f : ℕ) (key : Key) → result_ok (reading x.bytes) ≡ Some (message.FetchAsk i f key) → ⊥) → ((f : ℕ) (key : Key) (what : Found) → result_ok (reading x.bytes) ≡ Some (message.FetchGot f key what) → ⊥)
-    → s.items ≡ (w.nodes n).items → ((posts : List Post) (later : ℕ → Bool) (items : ℕ → List Item) → AreOnWay posts later items n (w.nodes n).waiting.calls → AreOnWay posts later items n s.waiting.calls)
+    → IsNoOrder x → s.items ≡ (w.nodes n).items → s.locks ≡ (w.nodes n).locks → s.last_operation ≡ (w.nodes n).last_operation → s.batches ≡ (w.nodes n).batches
+    → ((posts : List Post) (later : ℕ → Bool) (items : ℕ → List Item) → AreOnWay posts later items n (w.nodes n).waiting.calls → AreOnWay posts later items n s.waiting.calls)
     → IsMoving config (After config w n (begun s)) (put came e true)
-other_moves config w came n e x s there m c no_ask no_got items calls =
-    let ways = other_ways w came n e x (begun s) c no_ask no_got items in
-    node_moves config w came (put came e true) n (begun s) there (λ i y lt. absurd (omega arith)) m (came_past w.envelopes e x came c.at m.past) tt
-    (calls (posts_after w (begun s)) (put came e true) (items_after w n (begun s)) (each_weaker _ _ (w.nodes n).waiting.calls (λ y h f is. ways n f (h f is)) (m.waits n)))
-    (λ i f _ o. ways i f o) (subst AreServable (sym items) (m.servable n))
+other_moves config w came n e x s there m c no_ask no_got no_order items locks last batches calls =
+    order_moves config w came n e x (begun s) there m c no_ask no_got (λ i y lt. absurd (omega arith)) tt (λ item at. subst (IsIn item) (sym items) at) (subst AreServable (sym items) (m.servable n)) calls
+    (holders_same (w.nodes n) s batches locks (m.holders n))
+    (plain_hearing w came n e x (begun s) (no_seat config w came n there m) c no_order (ap (λ (t : LockTable). t.shut) locks) last)
+
+-- an order is read as one
+pub same_kind : (m y : Message) → IsOrder y → Some m ≡ Some y → IsOrder m
+same_kind m y is e = subst IsOrder (sym (same_client m y e)) is
 
 -- ---- a call
 
@@ -98,9 +153,10 @@ call_moves config w came n e x call there m c read =
     let ask = λ (i f : ℕ) (key : Key) (is : result_ok (reading x.bytes) ≡ Some (message.FetchAsk i f key)). let z : Some (message.Call call) ≡ Some (message.FetchAsk i f key) = sym (ap result_ok read) ∙ is in absurd (cc) in
     let got = λ (f : ℕ) (key : Key) (what : Found) (is : result_ok (reading x.bytes) ≡ Some (message.FetchGot f key what)).
     let z : Some (message.Call call) ≡ Some (message.FetchGot f key what) = sym (ap result_ok read) ∙ is in absurd (cc) in
+    let order = λ (y : Message) (is : IsOrder y) (z : result_ok (reading x.bytes) ≡ Some y). same_kind (message.Call call) y is (sym (ap result_ok read) ∙ z) in
     elim (is_some (row_names call.op)) as (λ b. IsMoving config (After config w n (begun (cond b (admitted node call) node))) (put came e true)) [
-      | true ↦ other_moves config w came n e x (admitted node call) there m c ask got refl (λ posts later items h. admitted_calls posts later items n node.waiting call h)
-      | false ↦ other_moves config w came n e x node there m c ask got refl (λ posts later items h. h)
+      | true ↦ other_moves config w came n e x (admitted node call) there m c ask got order refl refl refl refl (λ posts later items h. admitted_calls posts later items n node.waiting call h)
+      | false ↦ other_moves config w came n e x node there m c ask got order refl refl refl refl (λ posts later items h. h)
     ]
 
 -- ---- a question
@@ -123,7 +179,8 @@ ask_moves config w came n e asker number key x there m c read =
     o in
     node_moves config w came later n k there (λ i y lt. absurd (omega arith)) m (came_past w.envelopes e x came c.at m.past) tt
     (each_weaker _ _ node.waiting.calls (λ y h f is. ways n f (h f is)) (m.waits n))
-    (λ i f _ o. ways i f o) (each_join (λ (i : Item). IsServable i.message) node.items (item ∷ []) (m.servable n) (tt, tt))
+    (λ i f _ o. ways i f o) (each_join (λ (i : Item). IsServable i.message) node.items (item ∷ []) (m.servable n) (tt, tt)) (m.holders n)
+    (plain_hearing w came n e x k (no_seat config w came n there m) c (λ y is z. same_kind (message.FetchAsk asker number key) y is (sym (ap result_ok read) ∙ z)) refl refl)
 
 -- ---- an answer
 
@@ -145,12 +202,13 @@ got_ways w came n e number key what x k c read items m f other o =
 pub got_moves : (config : Config) (w : World) (came : ℕ → Bool) (n e number : ℕ) (key : Key) (what : Found) (x : Envelope) (k : Work) → n < config.nodes → IsMoving config w came → IsComing w n e x
     → reading x.bytes ≡ Ok (message.FetchGot number key what) → All (λ (l : Letter). Fits l.message) k.sent → Each (λ (l : Letter). IsActor config l.to) k.sent → k.node.items ≡ (w.nodes n).items
     → ((P : ℕ → Type 0) → Each (λ (y : WaitingCall). (f : ℕ) → y.fetch ≡ Some f → f ≢ number → P f) (w.nodes n).waiting.calls → Each (λ (y : WaitingCall). (f : ℕ) → y.fetch ≡ Some f → P f) k.node.waiting.calls)
-    → IsMoving config (After config w n k) (put came e true)
-got_moves config w came n e number key what x k there m c read fit go items calls =
+    → k.node.locks ≡ (w.nodes n).locks → k.node.last_operation ≡ (w.nodes n).last_operation → k.node.batches ≡ (w.nodes n).batches → IsMoving config (After config w n k) (put came e true)
+got_moves config w came n e number key what x k there m c read fit go items calls locks last batches =
     let ways = got_ways w came n e number key what x k c read items in
     node_moves config w came (put came e true) n k there fit m (came_past w.envelopes e x came c.at m.past) go
     (calls (λ f. IsOnWay (posts_after w k) (put came e true) (items_after w n k) n f) (each_weaker _ _ (w.nodes n).waiting.calls (λ y h f is ne. ways n f (λ _ same. ne same) (h f is)) (m.waits n)))
-    (λ i f ne o. ways i f (λ same _. ne same) o) (subst AreServable (sym items) (m.servable n))
+    (λ i f ne o. ways i f (λ same _. ne same) o) (subst AreServable (sym items) (m.servable n)) (holders_same (w.nodes n) k.node batches locks (m.holders n))
+    (plain_hearing w came n e x k (no_seat config w came n there m) c (λ y is z. same_kind (message.FetchGot number key what) y is (sym (ap result_ok read) ∙ z)) (ap (λ (t : LockTable). t.shut) locks) last)
 
 -- a call that was taken off the fetch waits on another one, or on none
 pub off_other : (number : ℕ) (y : WaitingCall) (P : ℕ → Type 0) → ((f : ℕ) → y.fetch ≡ Some f → f ≢ number → P f) → (f : ℕ) → (off_fetch number y).fetch ≡ Some f → P f

@@ -8,9 +8,13 @@ use Rattle.fal_base.specs.declared.call.Config.{Config}
 use Rattle.fal_base.specs.declared.event.Envelope.{Envelope}
 use Rattle.fal_base.specs.declared.event.Event.{Event}
 use Rattle.fal_base.specs.declared.event.Event.TheVariants as event
+use Rattle.fal_base.specs.declared.event.Actor.TheVariants.{Coord}
 use Rattle.fal_client.specs.declared.event.ClientEvent.TheVariants as client
 use Rattle.fal_client.specs.State.{Work as ClientWork}
 use Rattle.fal_client.specs.Step.{client_step}
+use Rattle.fal_coord.specs.declared.event.CoordEvent.TheVariants as coord_event
+use Rattle.fal_coord.specs.State.{opening_coord, Work as CoordWork}
+use Rattle.fal_coord.specs.Step.{coord_step}
 use Rattle.fal_node.specs.declared.event.NodeEvent.{NodeEvent}
 use Rattle.fal_node.specs.declared.event.NodeEvent.TheVariants as node
 use Rattle.fal_wire.specs.declared.letter.Letter.{Letter}
@@ -22,16 +26,21 @@ use Rattle.fal_story.proofs.Drain.Moving.{IsMoving}
 use Rattle.fal_story.proofs.Drain.MovingClient.{AfterClient, send_moves, get_moves}
 use Rattle.fal_story.proofs.Drain.MovingGather.{gather_moves}
 use Rattle.fal_story.proofs.Drain.MovingGot.{deliver_moves}
-use Rattle.fal_story.proofs.Drain.MovingServe.{After, release_moves, serve_moves, exec_moves}
+use Rattle.fal_story.proofs.Drain.MovingExec.{exec_moves}
+use Rattle.fal_story.proofs.Drain.MovingHear.{hear_moves}
+use Rattle.fal_story.proofs.Drain.MovingStart.{start_moves}
+use Rattle.fal_story.proofs.Drain.MovingServe.{After, release_moves, serve_moves}
 use Rattle.fal_story.proofs.Events.Enabled.{delivers, gathers, execs, releases, serves}
+use Rattle.fal_story.proofs.Events.InCoord.{coord_after}
 use Rattle.fal_story.proofs.Events.LegalRuns.{IsKept, step_kept, step_counts}
 use Rattle.fal_story.proofs.Events.Opening.{opening_ghost, opening_shows, opening_ranged}
-use Rattle.fal_story.proofs.Histories.Deeds.{no_hear}
 use Rattle.fal_story.proofs.Ranges.Bounds.{Comes}
+use Rattle.fal_story.proofs.Ranges.CoordInRange.{coord_in_range}
 use Rattle.fal_story.proofs.Ranges.InRange.{node_in_range}
 use Rattle.fal_story.specs.Clusters.{IsCluster, is_lane, is_node}
 use Rattle.fal_story.specs.Fresh.{came_with, came_from, came}
-use Rattle.fal_story.specs.Run.{only_where, client_hears, node_hears, client_deed, node_deed, deed, done, step, run_from, run, IsLegal}
+use Rattle.fal_story.specs.Machines.{coord_hears, coord_made}
+use Rattle.fal_story.specs.Run.{deed_by, only_where, client_hears, node_hears, client_deed, node_deed, deed, done, step, run_from, run, IsLegal}
 use Rattle.fal_story.specs.World.{World, opening_world, put}
 
 -- ---- what holds after an event of a node or a client holds where the event is enabled
@@ -51,6 +60,11 @@ after_node config w u n (Some k) P holds at =
       | true ↦ λ there z. let below : n < config.nodes = grind (arith, nat_tests) in subst P (same_Some (After config w n k) u z) (holds k below refl)
       | false ↦ λ there z. absurd (cc)
     ] refl at
+
+-- and of the coordinator
+pub after_coord : (config : Config) (w u : World) (o : Option CoordWork) (P : World → Type 0) → ((k : CoordWork) → o ≡ Some k → P (coord_after config w k)) → done config (deed_by w Coord (coord_made o)) ≡ Some u → P u
+after_coord config w u None P holds at = absurd (cc)
+after_coord config w u (Some k) P holds at = subst P (same_Some (coord_after config w k) u at) (holds k refl)
 
 -- ---- one event
 
@@ -78,6 +92,13 @@ module _ (config : Config) (w : World) (came : ℕ → Bool) (cluster : IsCluste
       (λ to fit. deliver_moves config w came n number x k.ghost there k.shows m at to fit) e (fits n (node.Deliver x) work there (number, at) e))
       is
 
+  heard_moved : (u : World) (number : ℕ) (o : Option Envelope) → slice_get w.envelopes number ≡ o → done config (deed_by w Coord (coord_made (coord_hears w.coord o))) ≡ Some u → IsMoving config u (put came number true)
+  heard_moved u number None at is = absurd (cc)
+  heard_moved u number (Some x) at is =
+      after_coord config w u (coord_step w.coord (coord_event.Hear x)) (λ v. IsMoving config v (put came number true))
+      (λ work e. hear_moves config w came number x k.ghost work cluster k.shows m at e (coord_in_range config w k.ghost (coord_event.Hear x) work cluster few k.shows k.ranged (number, at) e).0.records)
+      is
+
   pub step_moves : (u : World) (e : Event) → step config w e ≡ Some u → IsMoving config u (came_with e came)
   unfolding deed
   step_moves u (event.Send l) at =
@@ -95,15 +116,26 @@ module _ (config : Config) (w : World) (came : ℕ → Bool) (cluster : IsCluste
       (λ batch found executed fit. release_moves config w came n number there m) is) tt at
   step_moves u (event.Serve n number) at =
       node_moved u n (node.Serve number) (λ work there is. serves (w.nodes n) number work (λ y. All (λ (l : Letter). Fits l.message) y.sent → IsMoving config (After config w n y) came)
-      (λ item found can fit. serve_moves config w came n number k.ghost item cluster there k.shows m found can fit) is) tt at
-  step_moves u (event.Hear number) at = absurd (no_hear config w u number at)
-  step_moves u event.Start at = absurd (cc)
+      (λ item found can fit. serve_moves config w came n number k.ghost item there k.shows m found can fit) is) tt at
+  step_moves u (event.Hear number) at = heard_moved u number (slice_get w.envelopes number) refl at
+  step_moves u event.Start at =
+      after_coord config w u (coord_step w.coord coord_event.Start) (λ v. IsMoving config v came)
+      (λ work is. start_moves config w came k.ghost work cluster k.shows m is (coord_in_range config w k.ghost coord_event.Start work cluster few k.shows k.ranged tt is).0.records) at
 
 -- ---- runs
 
-pub opening_moves : (config : Config) → IsMoving config (opening_world config) (λ number. false)
-unfolding opening_node
-opening_moves config = record { past = λ k at. refl; within = tt; waits = λ n. tt; servable = λ n. tt; beyond = λ n at. refl }
+pub opening_moves : (config : Config) → IsCluster config → IsMoving config (opening_world config) (λ number. false)
+unfolding opening_node opening_coord
+opening_moves config cluster = record {
+  few = cluster.few_nodes;
+  past = λ k at. refl;
+  within = tt;
+  waits = λ n. tt;
+  servable = λ n. tt;
+  beyond = λ n at. refl;
+  holders = λ n. tt;
+  staged = record { walking = tt; named = λ n is. absurd (cc); hearing = λ n is. tt };
+}
 
 -- what each event keeps in worlds that are kept, each run keeps
 pub run_holds : (config : Config) (P : World → (ℕ → Bool) → Type 0) → IsCluster config
@@ -136,4 +168,4 @@ legal_holds config P steps start events w legal at =
 
 pub legal_moves : (config : Config) (events : List Event) (w : World) → IsLegal config events → run config events ≡ Some w → IsKept config w × IsMoving config w (came events)
 legal_moves config events w legal at =
-    legal_holds config (IsMoving config) (λ v u c e few k m is. step_moves config v c legal.cluster few k m u e is) (opening_moves config) events w legal at
+    legal_holds config (IsMoving config) (λ v u c e few k m is. step_moves config v c legal.cluster few k m u e is) (opening_moves config legal.cluster) events w legal at

@@ -20,7 +20,7 @@ use Rattle.fal_node.specs.State.{NodeState}
 use Rattle.fal_story.proofs.Drain.Actors.{IsActor}
 use Rattle.fal_story.proofs.Lists.Each.{Each}
 use Rattle.fal_story.specs.Clusters.{is_lane}
-use Rattle.fal_story.specs.Fresh.{is_actor, due_with, due_from, due, event_of_node, fresh_gets, fresh_at_node, fresh_at_coord, fresh_replies}
+use Rattle.fal_story.specs.Fresh.{is_actor, due_with, due_from, due, event_of_node, fresh_gets, fresh_at_node, fresh_start, fresh_at_coord, fresh_replies}
 use Rattle.fal_story.specs.World.{World}
 
 -- ---- lists that are empty
@@ -90,8 +90,17 @@ due_none a came from (y ∷ ys) (suc k) x e at is = subst (λ i. came i ≡ true
 pub record NoneFresh (config : Config) (w : World) (came : ℕ → Bool) : Type 0 where
   pub all_came : (k : ℕ) (x : Envelope) → slice_get w.envelopes k ≡ Some x → IsActor config x.to → came k ≡ true
   pub no_dues : (n : ℕ) → n < config.nodes → dues (w.nodes n) ≡ []
+  pub no_start : fresh_start w ≡ []
 
--- nothing is fresh at lanes, nor at nodes
+-- nothing is fresh at the coordinator
+coord_due : (config : Config) (w : World) (came : ℕ → Bool) → fresh_replies config w came ≡ [] → (due Coord came w.envelopes ≡ []) × (fresh_start w ≡ [])
+coord_due config w came e =
+    let lanes = flat_map (λ lane. fresh_gets w came lane) (range_with_len 1 (length config.lanes)) in
+    let nodes = flat_map (λ number. fresh_at_node w came number) (range_with_len 0 config.nodes) in
+    let parts = join_none (map (λ number. event.Hear number) (due Coord came w.envelopes)) (fresh_start w) (join_none (lanes ++ nodes) (fresh_at_coord w came) e).1 in
+    (map_none (λ number. event.Hear number) (due Coord came w.envelopes) parts.0, parts.1)
+
+-- nor at lanes, nor at nodes
 none_at : (config : Config) (w : World) (came : ℕ → Bool) → fresh_replies config w came ≡ []
     → (flat_map (λ lane. fresh_gets w came lane) (range_with_len 1 (length config.lanes)) ≡ []) × (flat_map (λ number. fresh_at_node w came number) (range_with_len 0 config.nodes) ≡ [])
 none_at config w came e =
@@ -124,12 +133,13 @@ none_fresh config w came none =
     record {
       all_came = λ k x at there. came_if came w.envelopes k x at (due_at e x.to there);
       no_dues = λ n there. (node_due config w came n e there).1;
+      no_start = (coord_due config w came e).1;
     }
   where
     due_at : fresh_replies config w came ≡ [] → (a : Actor) → IsActor config a → due a came w.envelopes ≡ []
     due_at e (Client l) there = lane_due config w came l e there
     due_at e (Node n) there = (node_due config w came n e there).0
-    due_at e Coord there = absurd there
+    due_at e Coord there = (coord_due config w came e).0
 
 -- ---- a node
 

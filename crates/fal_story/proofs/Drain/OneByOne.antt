@@ -96,7 +96,7 @@ pub legal_one_by_one : (config : Config) (events : List Event) → IsLegal confi
 legal_one_by_one config events legal =
     elim (run config events) as (λ o. run config events ≡ o → IsSome o → AreOneByOne (entries_at o)) [
       | None ↦ λ t y. absurd (cc)
-      | Some w ↦ λ t y. (legal_holds config (IsPaced config) steps (record { live = opening_live config; paced = λ j l s is some. absurd (cc) }) events w legal t).1.paced
+      | Some w ↦ λ t y. (legal_holds config (IsPaced config) steps (record { live = opening_live config legal.cluster; paced = λ j l s is some. absurd (cc) }) events w legal t).1.paced
     ] refl legal.enabled
   where
     steps : (v u : World) (c : ℕ → Bool) (e : Event) → v.events < 2 ^ 63 → IsKept config v → IsPaced config v c → step config v e ≡ Some u → IsPaced config u (came_with e c)

@@ -1,19 +1,30 @@
 -- Where nothing but Send is fresh the cluster is quiet.
-use Rattle.std.proofs.Common.{◌≡◌, ℕ, zero, suc, ◌<◌, ◌≤◌, nat_lt, Bool, true, false, not, ◌&&◌, ◌||◌, cond, List, [], ◌∷◌, length, Option, Some, None, is_none, refl, sym, ap, subst, ◌∙◌, arith}
+use Rattle.std.proofs.Common.{◌≡◌, ⊎_elim, eq-eqb, is_some, ℕ, zero, suc, ◌<◌, ◌≤◌, nat_lt, Bool, true, false, not, ◌&&◌, ◌||◌, cond, List, [], ◌∷◌, length, Option, Some, None, is_none, refl, sym, ap, subst, ◌∙◌, arith}
 use Rattle.std.specs.Prelude.{slice_get, ◌==◌, IsSome}
-use Rattle.std.specs.List.{list_all}
+use Rattle.std.specs.List.{list_all, list_any}
 use Rattle.std.proofs.lemmas.Bool.Decides.{nat_tests}
+use Rattle.fal_base.specs.declared.call.CallRec.{CallRec}
 use Rattle.fal_base.specs.declared.call.Config.{Config}
 use Rattle.fal_base.specs.declared.event.Envelope.{Envelope}
+use Rattle.fal_base.specs.declared.event.Actor.{Actor}
+use Rattle.fal_base.specs.declared.event.Actor.TheVariants.{Node}
 use Rattle.fal_base.specs.declared.event.Event.{Event}
+use Rattle.fal_base.specs.declared.event.Event.TheVariants as event
 use Rattle.fal_base.specs.declared.key.Key.{Key}
 use Rattle.fal_batch.specs.Fate.{Setting, Fate, Skips, Leaves, Waits, Joins, fate, bars}
 use Rattle.fal_batch.specs.Plan.{no_plan, free_calls, is_idle, is_skipped, is_skipped_by}
 use Rattle.fal_batch.proofs.Empty.{idle_calls}
 use Rattle.fal_batch.proofs.FreeCalls.{free_of, free_calls_are}
-use Rattle.fal_coord.specs.State.{opening_coord, is_quiet as is_coord_quiet}
+use Rattle.fal_coord.specs.declared.stage.Stage.{Stage}
+use Rattle.fal_coord.specs.declared.stage.Stage.TheVariants as stage
+use Rattle.fal_coord.specs.Begin.{begin, start_first}
+use Rattle.fal_coord.specs.Nodes.{is_missing}
+use Rattle.fal_coord.specs.State.{is_idle as is_idle_stage, is_quiet as is_coord_quiet}
+use Rattle.fal_coord.specs.Step.{coord_step}
 use Rattle.fal_locks.specs.Keys.{has_key}
-use Rattle.fal_locks.specs.Locks.{LockTable, is_shut, shut_keys_of}
+use Rattle.fal_locks.specs.declared.holder.Holder.{Holder}
+use Rattle.fal_locks.specs.Locks.{LockTable, is_shut, is_held, shut_keys_of}
+use Rattle.fal_node.specs.declared.batch.Batch.{Batch}
 use Rattle.fal_node.specs.declared.item.Item.{Item}
 use Rattle.fal_node.specs.Due.{is_quiet}
 use Rattle.fal_node.specs.Gather.{setting_at, plan_at}
@@ -24,17 +35,21 @@ use Rattle.fal_wire.specs.declared.message.Message.{Message}
 use Rattle.fal_wire.specs.declared.message.Message.TheVariants as message
 use Rattle.fal_story.proofs.Drain.Actors.{IsActor}
 use Rattle.fal_story.proofs.Drain.Moving.{IsMoving, IsServable, items_in}
+use Rattle.fal_story.proofs.Drain.Fresh.{IsFresh}
+use Rattle.fal_story.proofs.Drain.MovingDeliver.{no_seat}
+use Rattle.fal_story.proofs.Drain.MovingStart.{stands_at, idle_open, walk_open}
 use Rattle.fal_story.proofs.Drain.MovingRuns.{legal_moves}
+use Rattle.fal_story.proofs.Drain.Staged.{IsWalking, IsHearing, missing_of}
 use Rattle.fal_story.proofs.Drain.NoneDue.{NoneFresh, none_fresh, none_due}
-use Rattle.fal_story.proofs.Drain.Unheard.{coord_rests}
 use Rattle.fal_story.proofs.Drain.OnWay.{IsOnWay, Asks, Keeps, Gets}
 use Rattle.fal_story.proofs.Events.Going.{GoesOn, fates_go}
-use Rattle.fal_story.proofs.Events.Shows.{Ghost, Shows, IsTidy, posts_of}
+use Rattle.fal_story.proofs.Events.Shows.{Ghost, Shows, IsCurrent, IsTidy, posts_of, locks_in, listed_of}
+use Rattle.fal_story.proofs.Families.Operation.{shut_by}
 use Rattle.fal_story.proofs.Lists.Each.{Each, each_weaker, each_both}
 use Rattle.fal_story.proofs.Lists.GatherLists.{tickets_apart}
 use Rattle.fal_story.proofs.Lists.Members.{IsIn, each_in, in_at}
 use Rattle.fal_story.proofs.Lists.WaitLists.{rising_apart}
-use Rattle.fal_story.proofs.View.{Post}
+use Rattle.fal_story.proofs.View.{Post, post}
 use Rattle.fal_story.specs.Clusters.{IsCluster}
 use Rattle.fal_story.specs.Fresh.{IsQuiet, IsQuietAt, came, first_reply, fresh_replies_at}
 use Rattle.fal_story.specs.Run.{IsLegal, run}
@@ -50,6 +65,11 @@ pub record HoldsNothing (node : NodeState) : Type 0 where
   pub batches : node.batches ≡ []
   pub shut : node.locks.shut ≡ None
   pub blocked : node.blocked ≡ None
+  pub holders : node.locks.holders ≡ []
+
+no_holders : (hs : List Holder) → Each (λ (h : Holder). (b : Batch) × (IsIn b [] × (b.number ≡ h.number))) hs → hs ≡ []
+no_holders [] all = refl
+no_holders (h ∷ hs) all = absurd all.0.1.0
 
 -- so each item can be served, of whichever kind
 item_served : (node : NodeState) (kind : Message) → HoldsNothing node → IsServable kind → can_serve node kind ≡ true
@@ -61,6 +81,12 @@ item_served node (message.FetchAsk asker number key) free can =
     or_true : (b : Bool) → (b || true) ≡ true
     or_true true = refl
     or_true false = refl
+item_served node (message.Lock operation keys) free can =
+    ap (λ b. not b && not (list_any (λ key. is_held node.locks key) keys)) (ap (λ o. is_some o) free.shut) ∙ ap not (none_any keys)
+  where
+    none_any : (keys : List Key) → list_any (λ key. is_held node.locks key) keys ≡ false
+    none_any [] = refl
+    none_any (key ∷ keys) = ap (λ hs. list_any (λ (x : Holder). has_key x.keys key) hs || list_any (λ key. is_held node.locks key) keys) free.holders ∙ none_any keys
 item_served node other free can = absurd can
 
 no_items : (items : List Item) → Each (λ (i : Item). ⊥) items → items ≡ []
@@ -134,45 +160,132 @@ module _ (config : Config) (w : World) (c : ℕ → Bool) (cluster : IsCluster c
   posted_came : (k : ℕ) (y : Post) → slice_get (posts_of w.envelopes) k ≡ Some y → c k ≡ false → ⊥
   posted_came k y at fresh = let x = envelope_at w.envelopes k y at in let came = every_came k x.0 x.1 in absurd (cc)
 
-  items_none : (n : ℕ) → n < config.nodes → (w.nodes n).items ≡ []
-  items_none n there =
+  -- nothing holds an item back where nothing is shut
+  holds_nothing : (n : ℕ) → n < config.nodes → (w.nodes n).locks.shut ≡ None → HoldsNothing (w.nodes n)
+  holds_nothing n there shut =
       let due = none_due (w.nodes n) (none.no_dues n there) in
-      let free : HoldsNothing (w.nodes n) = record { batches = due.batches; shut = (s.good.operation.stands n there).1; blocked = (s.placed n).blocked } in
+      record {
+        batches = due.batches;
+        shut = shut;
+        blocked = (s.placed n).blocked;
+        holders = no_holders (w.nodes n).locks.holders (subst (λ bs. Each (λ (h : Holder). (b : Batch) × (IsIn b bs × (b.number ≡ h.number))) (w.nodes n).locks.holders) due.batches (m.holders n));
+      }
+
+  items_none : (n : ℕ) → n < config.nodes → (w.nodes n).locks.shut ≡ None → (w.nodes n).items ≡ []
+  items_none n there shut =
+      let due = none_due (w.nodes n) (none.no_dues n there) in
+      let free = holds_nothing n there shut in
       no_items (w.nodes n).items
       (each_both (λ (i : Item). IsServable i.message) (λ (i : Item). can_serve (w.nodes n) i.message ≡ false) (λ i. ⊥) (w.nodes n).items (λ i is held. let can = item_served (w.nodes n) i.message free is in absurd (cc)) (m.servable n) due.items)
 
   -- nor does a node that is not there
-  no_item : (n : ℕ) → (w.nodes n).items ≡ []
-  no_item n =
+  no_item : ((n : ℕ) → n < config.nodes → (w.nodes n).locks.shut ≡ None) → (n : ℕ) → (w.nodes n).items ≡ []
+  no_item open_all n =
       elim (nat_lt n config.nodes) as (λ b. nat_lt n config.nodes ≡ b → (w.nodes n).items ≡ []) [
-        | true ↦ λ is. let there : n < config.nodes = grind (arith, nat_tests) in items_none n there
+        | true ↦ λ is. let there : n < config.nodes = grind (arith, nat_tests) in items_none n there (open_all n there)
         | false ↦ λ is. let beyond : config.nodes ≤ n = grind (arith, nat_tests) in quiet_items (w.nodes n) (m.beyond n beyond)
       ] refl
 
-  on_way_none : (n f : ℕ) → IsOnWay (posts_of w.envelopes) c (items_in w) n f → ⊥
-  on_way_none n f (Asks k p to key at fresh) = posted_came k _ at fresh
-  on_way_none n f (Keeps i item key at is) = let none_there : IsIn item [] = subst (IsIn item) (no_item i) at in absurd none_there
-  on_way_none n f (Gets k p key what at fresh) = posted_came k _ at fresh
+  on_way_none : ((n : ℕ) → n < config.nodes → (w.nodes n).locks.shut ≡ None) → (n f : ℕ) → IsOnWay (posts_of w.envelopes) c (items_in w) n f → ⊥
+  on_way_none open_all n f (Asks k p to key at fresh) = posted_came k _ at fresh
+  on_way_none open_all n f (Keeps i item key at is) = let none_there : IsIn item [] = subst (IsIn item) (no_item open_all i) at in absurd none_there
+  on_way_none open_all n f (Gets k p key what at fresh) = posted_came k _ at fresh
 
-  calls_none : (n : ℕ) → n < config.nodes → (w.nodes n).waiting.calls ≡ []
-  calls_none n there =
+  calls_none : ((n : ℕ) → n < config.nodes → (w.nodes n).locks.shut ≡ None) → (n : ℕ) → n < config.nodes → (w.nodes n).waiting.calls ≡ []
+  calls_none open_all n there =
       let node = w.nodes n in
       let due = none_due node (none.no_dues n there) in
       let p = s.placed n in
       let some : 1 ≤ node.limit = subst (λ i. 1 ≤ i) (sym p.limit) cluster.some_batch in
-      no_calls_left node.waiting.calls (each_weaker _ _ node.waiting.calls (λ x way f is. on_way_none n f (way f is)) (m.waits n))
+      no_calls_left node.waiting.calls (each_weaker _ _ node.waiting.calls (λ x way f is. on_way_none open_all n f (way f is)) (m.waits n))
       (each_both _ (λ (x : WaitingCall). x.fetch ≡ None → is_skipped (setting_at node) x.call ≡ true) _ node.waiting.calls
-      (λ x going skipped free. not_skipped node.limit (fate (setting_at node) x.call) some going (skipped free)) (fates_go config w n h there s) (idle_skips node p.tidy due.idle))
+      (λ x going skipped free. not_skipped node.limit (fate (setting_at node) x.call) some going (skipped free)) (fates_go config w n h there (no_seat config w c n there m) s (open_all n there)) (idle_skips node p.tidy due.idle))
 
-  pub all_quiet : w.coord ≡ opening_coord config.nodes → IsQuiet config w c
-  all_quiet rests = record {
+  -- ---- the coordinator
+
+  fresh_none : (to : Actor) (y : Message) → IsFresh (posts_of w.envelopes) c to y → ⊥
+  fresh_none to y f = posted_came f.0 (post to f.1.0 y) f.1.1.0 f.1.1.1
+
+  -- a walk's question would be served
+  walk_none : (call : CallRec) (number : ℕ) (key : Key) → w.coord.stage ≡ stage.Walk call number key → ⊥
+  walk_none call number key at =
+      on_way_none (λ n there. walk_open config w h s call number key n at there) 255 number (subst (IsWalking (posts_of w.envelopes) c (items_in w)) at m.staged.walking)
+
+  -- so would a Lock that is queued
+  queued_none : (operation : ℕ) (keys : List Key) (n : ℕ) → n < config.nodes → (w.nodes n).locks.shut ≡ None → h.queued n ≡ Some (message.Lock operation keys) → ⊥
+  queued_none operation keys n there shut queued =
+      let nothing : locks_in (w.nodes n).items ≡ [] = ap (λ items. locks_in items) (items_none n there shut) in
+      let some : locks_in (w.nodes n).items ≡ message.Lock operation keys ∷ [] = s.beside.queues n ∙ ap listed_of queued in
+      let wrong : [] ≡ message.Lock operation keys ∷ [] = sym nothing ∙ some in
+      cc
+
+  -- no node is still to be heard
+  hearing_none : (t : Stage) (n : ℕ) → w.coord.stage ≡ t → n < config.nodes → is_missing n (missing_of t) ≡ true → IsHearing (posts_of w.envelopes) c w.coord.operation t n (w.nodes n) → ⊥
+  hearing_none stage.Idle n at there waits hearing = absurd (cc)
+  hearing_none (stage.Walk call number key) n at there waits hearing = absurd (cc)
+  hearing_none (stage.Lock operation missing rows) n at there waits hearing =
+      let x = stands_at config w h s (stage.Lock operation missing rows) n at there in
+      ⊎_elim
+      (λ still.
+      ⊎_elim
+      (λ away. fresh_none (Node n) (message.Lock w.coord.operation operation.keys) (hearing.away away.2))
+      (λ queued. queued_none w.coord.operation operation.keys n there queued.0 queued.1)
+      still.1)
+      (λ shut. let told = hearing.shut (λ open_now. let wrong : None ≡ shut_by w.coord.operation operation.keys = sym open_now ∙ shut.0 in cc) in fresh_none (Node 255) (message.Locked w.coord.operation n told.0) told.1)
+      x.1
+  hearing_none (stage.Count operation rows dir updates missing counts) n at there waits hearing =
+      ⊎_elim (λ asked. fresh_none (Node n) (message.Count w.coord.operation dir) asked) (λ told. fresh_none (Node 255) (message.Counted w.coord.operation n told.0) told.1) hearing
+  hearing_none (stage.Finish keys updates missing) n at there waits hearing =
+      fresh_none (Node n) (message.Commit w.coord.operation updates) (hearing.shut (λ open_now. fresh_none (Node 255) (message.Done w.coord.operation n) (hearing.freed open_now)))
+
+  nobody_missing : (ns : List ℕ) → missing_of w.coord.stage ≡ ns → ns ≡ []
+  nobody_missing [] is = refl
+  nobody_missing (n ∷ ns) is =
+      let first : is_missing n (n ∷ ns) ≡ true = ap (λ b. b || is_missing n ns) (eq-eqb n n refl) in
+      let waits : is_missing n (missing_of w.coord.stage) ≡ true = subst (λ ms. is_missing n ms ≡ true) (sym is) first in
+      absurd (hearing_none w.coord.stage n refl (m.staged.named n waits) waits (m.staged.hearing n waits))
+
+  -- no operation is under way
+  stage_idle : (t : Stage) → w.coord.stage ≡ t → IsCurrent h.call h.phase t → t ≡ stage.Idle
+  stage_idle stage.Idle at current = refl
+  stage_idle (stage.Walk call number key) at current = absurd (walk_none call number key at)
+  stage_idle (stage.Lock operation missing rows) at current = absurd (current.2 (nobody_missing missing (ap missing_of at)))
+  stage_idle (stage.Count operation rows dir updates missing counts) at current = absurd (current.2 (nobody_missing missing (ap missing_of at)))
+  stage_idle (stage.Finish keys updates missing) at current = absurd (current (nobody_missing missing (ap missing_of at)))
+
+  idle_now : w.coord.stage ≡ stage.Idle
+  idle_now = stage_idle w.coord.stage refl s.beside.hosts.current
+
+  -- and no call waits for one, since it would start
+  starts_not : is_some (begin w.coord w.coord.stage) ≡ false
+  unfolding coord_step
+  starts_not = elim (is_some (begin w.coord w.coord.stage)) as (λ b. cond b (event.Start ∷ []) [] ≡ [] → b ≡ false) [ true ↦ λ z. absurd (cc) | false ↦ λ z. refl ] none.no_start
+
+  none_waiting : w.coord.waiting ≡ []
+  none_waiting = by_calls w.coord.waiting refl
+    where
+      by_calls : (calls : List CallRec) → w.coord.waiting ≡ calls → calls ≡ []
+      by_calls [] is = refl
+      by_calls (call ∷ calls) is =
+          let some : is_some (begin w.coord w.coord.stage) ≡ true = ap (λ t. is_some (begin w.coord t)) idle_now ∙ ap (λ cs. is_some (start_first w.coord cs)) is in
+          let wrong : true ≡ false = sym some ∙ starts_not in
+          absurd (cc)
+
+  coord_quiet : is_coord_quiet w.coord ≡ true
+  coord_quiet = ap (λ (cs : List CallRec). (length cs == 0) && is_idle_stage w.coord.stage) none_waiting ∙ ap (λ t. is_idle_stage t) idle_now
+
+  all_open : (n : ℕ) → n < config.nodes → (w.nodes n).locks.shut ≡ None
+  all_open n there = idle_open config w h s n idle_now there
+
+  pub all_quiet : IsQuiet config w c
+  all_quiet = record {
     all_came = every_came;
     nodes = λ n.
         elim (nat_lt n config.nodes) as (λ b. nat_lt n config.nodes ≡ b → is_quiet (w.nodes n) ≡ true) [
-          | true ↦ λ is. let there : n < config.nodes = grind (arith, nat_tests) in quiet_of (w.nodes n) (none_due (w.nodes n) (none.no_dues n there)).batches (calls_none n there) (items_none n there)
+          | true ↦ λ is. let there : n < config.nodes = grind (arith, nat_tests) in quiet_of (w.nodes n) (none_due (w.nodes n) (none.no_dues n there)).batches (calls_none all_open n there) (items_none n there (all_open n there))
           | false ↦ λ is. let beyond : config.nodes ≤ n = grind (arith, nat_tests) in m.beyond n beyond
         ] refl;
-    coord = ap (λ x. is_coord_quiet x) rests;
+    coord = coord_quiet;
   }
 
 -- where nothing is fresh after a legal run but Sends, the cluster is quiet
@@ -182,5 +295,5 @@ none_is_quiet config events legal none =
       | None ↦ λ at e. let wrong : IsSome {T = World} None = subst (λ (o : Option World). IsSome o) at legal.enabled in absurd (cc)
       | Some w ↦ λ at e.
           let k = legal_moves config events w legal at in
-          all_quiet config w (came events) legal.cluster k.0.ghost k.0.shows k.1 (none_fresh config w (came events) e) (coord_rests config events w at)
+          all_quiet config w (came events) legal.cluster k.0.ghost k.0.shows k.1 (none_fresh config w (came events) e)
     ] refl none

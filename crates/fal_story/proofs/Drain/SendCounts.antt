@@ -14,6 +14,9 @@ use Rattle.fal_base.specs.Transcript.{call_of, lane_call, numbered, sents}
 use Rattle.fal_client.specs.declared.current.Current.{Current}
 use Rattle.fal_client.specs.declared.event.ClientEvent.TheVariants as client
 use Rattle.fal_client.specs.State.{ClientState, Work as ClientWork}
+use Rattle.fal_coord.specs.declared.event.CoordEvent.TheVariants as coord_event
+use Rattle.fal_coord.specs.State.{Work as CoordWork}
+use Rattle.fal_coord.specs.Step.{coord_step}
 use Rattle.fal_client.specs.Step.{begun, skipped, answered, client_step, sent_next, started}
 use Rattle.fal_base.specs.OpPaths.{bad_path}
 use Rattle.fal_node.specs.declared.event.OwnEvent.{OwnEvent}
@@ -26,12 +29,12 @@ use Rattle.fal_story.proofs.Lists.Each.{Each, each_join}
 use Rattle.fal_story.proofs.Events.EnabledClient as enabled
 use Rattle.fal_story.proofs.Events.LegalRuns.{IsKept, step_kept, step_counts, legal_kept}
 use Rattle.fal_story.proofs.Lists.Grown.{put_all, slice_get_below, tells, unequal}
-use Rattle.fal_story.proofs.Drain.MovingRuns.{after_client, after_node}
-use Rattle.fal_story.proofs.Histories.Deeds.{no_hear}
+use Rattle.fal_story.proofs.Drain.MovingRuns.{after_client, after_node, after_coord}
 use Rattle.fal_story.proofs.Events.Opening.{opening_ghost, opening_shows, opening_ranged}
 use Rattle.fal_story.specs.Clusters.{IsCluster, calls_of_lane, is_lane, is_node}
-use Rattle.fal_story.specs.Fresh.{due, event_of_node, fresh_gets, fresh_at_node, fresh_at_coord, fresh_replies, fresh_replies_at, first_reply, came, AreAnswered, IsDrained}
-use Rattle.fal_story.specs.Run.{IsEnabled, IsLegal, client_deed, client_hears, deed, done, entries_at, node_deed, node_hears, only_where, run, run_from, step, transcript}
+use Rattle.fal_story.specs.Fresh.{due, event_of_node, fresh_gets, fresh_at_node, fresh_at_coord, fresh_replies, fresh_replies_at, first_reply, came, AreAnswered, IsDrained, fresh_start}
+use Rattle.fal_story.specs.Machines.{coord_hears, coord_made}
+use Rattle.fal_story.specs.Run.{deed_by, IsEnabled, IsLegal, client_deed, client_hears, deed, done, entries_at, node_deed, node_hears, only_where, run, run_from, step, transcript}
 use Rattle.fal_story.specs.World.{World, opening_world, posted, put}
 use Rattle.fal_story.specs.Sending.{calls_sent_by, calls_sent}
 
@@ -89,6 +92,10 @@ module _ (config : Config) (w u : World) (l : ℕ) (k : IsKept config w) where
   unfolding posted
   node_sends n o at = after_node config w u n o (Sends 0) (λ work there is. paces_none _ _ refl) at
 
+  coord_sends : (o : Option CoordWork) → done config (deed_by w Coord (coord_made o)) ≡ Some u → Sends 0 u
+  unfolding posted
+  coord_sends o at = after_coord config w u o (Sends 0) (λ work is. paces_none _ _ refl) at
+
   -- an event sends as many calls as it counts
   pub step_sends : (e : Event) → step config w e ≡ Some u → Sends (calls_sent_by l e) u
   unfolding deed
@@ -99,8 +106,8 @@ module _ (config : Config) (w u : World) (l : ℕ) (k : IsKept config w) where
   step_sends (event.Exec n number) at = node_sends n (node_step (w.nodes n) (node.Exec number)) at
   step_sends (event.Release n number) at = node_sends n (node_step (w.nodes n) (node.Release number)) at
   step_sends (event.Serve n number) at = node_sends n (node_step (w.nodes n) (node.Serve number)) at
-  step_sends (event.Hear number) at = absurd (no_hear config w u number at)
-  step_sends event.Start at = absurd (cc)
+  step_sends (event.Hear number) at = coord_sends (coord_hears w.coord (slice_get w.envelopes number)) at
+  step_sends event.Start at = coord_sends (coord_step w.coord coord_event.Start) at
 
 -- ---- runs
 
@@ -174,7 +181,8 @@ replies config w came =
     (λ number. each_join IsReply (map (λ envelope. event.Deliver number envelope) (due (Node number) came w.envelopes)) (map (λ e. event_of_node number e) (dues (w.nodes number)))
     (each_map IsReply (λ envelope. event.Deliver number envelope) (due (Node number) came w.envelopes) (λ envelope l. refl))
     (each_map IsReply (λ e. event_of_node number e) (dues (w.nodes number)) (λ e. own_reply number e)))))
-    (each_join IsReply (map (λ number. event.Hear number) (due Coord came w.envelopes)) [] (each_map IsReply (λ number. event.Hear number) (due Coord came w.envelopes) (λ number l. refl)) tt)
+    (each_join IsReply (map (λ number. event.Hear number) (due Coord came w.envelopes)) (fresh_start w) (each_map IsReply (λ number. event.Hear number) (due Coord came w.envelopes) (λ number l. refl))
+    (elim (is_some (coord_step w.coord coord_event.Start)) as (λ b. Each IsReply (cond b (event.Start ∷ []) [])) [ true ↦ ((λ l. refl), tt) | false ↦ tt ]))
   where
     lanes : List Event
     lanes = flat_map (λ lane. fresh_gets w came lane) (range_with_len 1 (length config.lanes))

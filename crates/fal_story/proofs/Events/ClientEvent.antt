@@ -1,5 +1,5 @@
 -- A client sends its next call, or hears a record.
-use Rattle.std.proofs.Common.{◌≡◌, ◌≢◌, inl, ⊎_elim, ℕ, zero, suc, ◌+◌, ◌&&◌, Bool, true, false, cond, List, [], ◌∷◌, ◌++◌, length, drop, map, Option, Some, None, Result, Ok, Err, refl, sym, ap, ◌∙◌, subst, arith, append-nil}
+use Rattle.std.proofs.Common.{◌≡◌, ◌≢◌, inl, ⊎_elim, ℕ, zero, suc, ◌+◌, ◌<◌, ◌&&◌, Bool, true, false, cond, List, [], ◌∷◌, ◌++◌, length, drop, map, Option, Some, None, Result, Ok, Err, refl, sym, ap, ◌∙◌, subst, arith, append-nil}
 use Rattle.std.specs.Prelude.{slice_get, IsTrue}
 use Rattle.std.specs.List.{All}
 use Rattle.std.specs.Option.{option_map}
@@ -13,7 +13,7 @@ use Rattle.fal_base.specs.declared.call.CallRec.{CallRec}
 use Rattle.fal_base.specs.declared.call.Config.{Config}
 use Rattle.fal_base.specs.declared.entry.Entry.TheVariants as entry
 use Rattle.fal_base.specs.declared.event.Actor.{Actor}
-use Rattle.fal_base.specs.declared.event.Actor.TheVariants.{Client, Node}
+use Rattle.fal_base.specs.declared.event.Actor.TheVariants.{Client, Node, Coord}
 use Rattle.fal_base.specs.declared.event.Envelope.{Envelope}
 use Rattle.fal_base.specs.declared.event.Note.TheVariants as note
 use Rattle.fal_base.specs.declared.event.Point.TheVariants.{Here, Carried}
@@ -44,14 +44,16 @@ use Rattle.fal_wire.specs.declared.message.Message.TheVariants as message
 use Rattle.fal_wire.specs.Messages.{Fits, reading}
 use Rattle.fal_wire.proofs.ReadingLaws.{spelled_reads}
 use Rattle.fal_wire.specs.Letters.{output_of}
+use Rattle.fal_story.proofs.Events.Besides.{beside_at_client}
 use Rattle.fal_story.proofs.Events.Shows.{Ghost, Shows, Held, Heard, AreSent, WaitsAt, PlannedAt, lane_of, planned_lane, view_of, post_of, posts_of}
 use Rattle.fal_story.proofs.Good.{Good}
 use Rattle.fal_story.proofs.Lists.Each.{each_weaker}
 use Rattle.fal_story.proofs.Lists.Grown.{put_other, put_same, put_back, at_put, put_all, slice_get_front}
-use Rattle.fal_story.proofs.Phase.{Phase, Idle, Asked, Tells, Replies, IsHeld}
+use Rattle.fal_story.proofs.Phase.{Phase, Idle, Asked, Plans, Runs, Tells, Replies, IsHeld}
 use Rattle.fal_story.proofs.Steps.Called.{IsNext, asked_good, heard_good}
 use Rattle.fal_story.proofs.Steps.Posted.{posted_good}
 use Rattle.fal_story.proofs.Steps.Skipped.{skipped_good}
+use Rattle.fal_story.proofs.Trees.Standing.{table_of}
 use Rattle.fal_story.proofs.View.{View, Post, IsPosted, post, plain, seat}
 use Rattle.fal_story.specs.Clusters.{IsCluster, IsCall, is_served, is_lane}
 use Rattle.fal_story.specs.World.{World, put, posted, envelope_of}
@@ -82,15 +84,32 @@ node_on : (table : Placement) (path : PathArg) → (n : ℕ) × (node_for table 
 node_on table (GoodPath names) = (route table names, refl)
 node_on table (Bad fault raw) = (0, refl)
 
--- a call that is served goes to a node
-pub served_at : (table : Placement) (call : Op) → IsTrue (is_served call) → (n : ℕ) × (addressee table call ≡ Node n)
+-- a call on a path goes to a node
+node_at : (table : Placement) (path : PathArg) → (n : ℕ) × (seat (node_for table path) ≡ Node n)
+node_at table path = let to = node_on table path in (to.0, ap seat to.1)
+
+-- who has a node's seat is that node
+node_seat : (a : Actor) (m : ℕ) → m ≢ 255 → seat a ≡ Node m → a ≡ Node m
+node_seat (Client lane) m other e = absurd (cc)
+node_seat (Node n) m other e = e
+node_seat Coord m other e = absurd (other (same_node (sym e)))
+  where
+    same_node : {a b : ℕ} → Node a ≡ Node b → a ≡ b
+    same_node e = cc
+
+-- a call that is served goes to a node, or to the coordinator at its seat
+pub served_at : (table : Placement) (call : Op) → IsTrue (is_served call) → (n : ℕ) × (seat (addressee table call) ≡ Node n)
 unfolding addressee
-served_at table (op.Mkdir path mode) served = node_on table path
-served_at table (op.Create path mode) served = node_on table path
-served_at table (op.Stat path) served = node_on table path
-served_at table (op.Access path want) served = node_on table path
-served_at table (op.Truncate path size) served = node_on table path
-served_at table (op.Unlink path) served = node_on table path
+served_at table (op.Mkdir path mode) served = node_at table path
+served_at table (op.Create path mode) served = node_at table path
+served_at table (op.Stat path) served = node_at table path
+served_at table (op.Access path want) served = node_at table path
+served_at table (op.Truncate path size) served = node_at table path
+served_at table (op.Unlink path) served = node_at table path
+served_at table (op.Chmod path mode) served = node_at table path
+served_at table (op.Chown path uid gid) served = node_at table path
+served_at table (op.Rmdir path) served = (255, refl)
+served_at table (op.Rename old new) served = (255, refl)
 served_at table other served = absurd (cc)
 
 -- ---- what stays
@@ -102,7 +121,7 @@ held_elsewhere call call' phase phase' l free same n ws ps h =
     let apart : (m : ℕ) → IsHeld n (phase m) → m ≢ l = λ m at e. free n (subst (λ i. IsHeld n (phase i)) e at) in
     record {
       waiters = each_weaker (WaitsAt call phase n) (WaitsAt call' phase' n) ws
-          (λ x at. let o = same (lane_of x) (apart (lane_of x) (subst (IsHeld n) (sym at.0) refl)) in (o.0 ∙ at.0, at.1 ∙ sym o.1)) h.waiters;
+          (λ x at. let o = same (lane_of x) (apart (lane_of x) (subst (IsHeld n) (sym at.0) refl)) in (o.0 ∙ at.0, at.1 ∙ sym o.1, at.2)) h.waiters;
       planned = each_weaker (PlannedAt call phase n) (PlannedAt call' phase' n) ps
           (λ x at. let o = same (planned_lane x) (apart (planned_lane x) (subst (IsHeld n) (sym at.0) refl)) in (o.0 ∙ at.0, at.1 ∙ sym o.1)) h.planned;
       waiters_apart = h.waiters_apart;
@@ -143,7 +162,7 @@ one_more n k = omega arith
 rests : (config : Config) (w : World) (l : ℕ) (h : Ghost) → Shows config w h → EndsClient config w l (unchanged (w.clients l))
 unfolding posted
 rests config w l h s =
-    let later : Shows config (record w { events = w.events + 1 }) h = record { good = s.good; held = s.held; items = s.items; heard = s.heard; placed = s.placed } in
+    let later : Shows config (record w { events = w.events + 1 }) h = record { good = s.good; held = s.held; items = s.items; heard = s.heard; placed = s.placed; beside = s.beside } in
     (h, subst (λ u. Shows config u h) same later)
   where
     same : record w { events = w.events + 1 } ≡ posted config (record w { clients = put w.clients l (w.clients l) }) (Client l) [] []
@@ -232,6 +251,8 @@ skips config w l h call fault cluster s left none bad =
             (heard_next config h'.call h.phase h.phase h.call l c None (λ _. idle) (λ y e. absurd (cc)) x)
             (λ m ne. heard_other config h.call h'.call h.phase h.phase m (w.clients m) refl (put_other h.call l called m ne) (s.heard m));
         placed = s.placed;
+        beside = beside_at_client config w.nodes w.coord h l h'.call h'.since h.phase s.good.operation.running (λ at. subst (IsHeld 255) idle at) (λ e. let wrong : Idle ≡ Runs = sym idle ∙ e in absurd (cc))
+            (λ i p e. let wrong : Idle ≡ Plans i p = sym idle ∙ e in absurd (cc)) (λ m ne. (refl, put_other h.call l called m ne)) s.beside;
       },
     )
 
@@ -250,7 +271,10 @@ begins config w l h call cluster s left none good fit =
     let n = to.0 in
     let sent = letter_to (addressee c.table call.op) (message.Call called) in
     let fits = (call_is config l (c.seq + 1) call cluster next.named).fits good in
-    let first = asked_good config v l n called next fits.1 (ap (λ t. addressee t call.op) (sym x.table) ∙ to.1) s.good in
+    let few = cluster.few_nodes in
+    let routed = λ (m : ℕ) (below : m < config.nodes) (is : n ≡ m).
+    node_seat (addressee (table_of config) call.op) m (λ own. absurd (omega arith)) (ap (λ t. seat (addressee t call.op)) (sym x.table) ∙ to.1 ∙ ap Node is) in
+    let first = asked_good config v l n called next fits.1 routed s.good in
     let h' : Ghost = record h { call = put h.call l called; since = put h.since l count; phase = put h.phase l (Asked n) } in
     let v1 : View = record v { entries = w.entries ++ entry.Sent l (c.seq + 1) ∷ []; seq = put v.seq l (c.seq + 1); call = h'.call; since = h'.since; phase = h'.phase } in
     let second = posted_good config v1 (Node n) count (message.Call called)
@@ -260,7 +284,7 @@ begins config w l h call cluster s left none good fit =
     let after : World = posted config (record w { clients = put w.clients l new }) (Client l) (output_of sent ∷ []) (note.Sent c.lane (c.seq + 1) ∷ []) in
     let posts : posts_of w.envelopes ++ post (Node n) count (message.Call called) ∷ [] ≡ posts_of after.envelopes =
     sym (map-append (λ e. post_of e) w.envelopes (envelope_of (Client l) w.events count (output_of sent) ∷ [])
-    ∙ ap (λ p. posts_of w.envelopes ++ p ∷ []) (one_post (Client l) w.events count (addressee c.table call.op) (message.Call called) (fit 0 sent (omega arith)) ∙ ap (λ a. post (seat a) count (message.Call called)) to.1)) in
+    ∙ ap (λ p. posts_of w.envelopes ++ p ∷ []) (one_post (Client l) w.events count (addressee c.table call.op) (message.Call called) (fit 0 sent (omega arith)) ∙ ap (λ a. post a count (message.Call called)) to.1)) in
     let same : record v1 { posts = v1.posts ++ post (Node n) count (message.Call called) ∷ [] } ≡ view_of config after h' = λ i. record v {
       posts = posts i;
       entries = w.entries ++ entry.Sent (sym x.lane i) (c.seq + 1) ∷ [];
@@ -282,6 +306,8 @@ begins config w l h call cluster s left none good fit =
             x)
             (λ m ne. heard_other config h.call h'.call h.phase h'.phase m (w.clients m) (put_other h.phase l (Asked n) m ne) (put_other h.call l called m ne) (s.heard m));
         placed = s.placed;
+        beside = beside_at_client config w.nodes w.coord h l h'.call h'.since h'.phase s.good.operation.running (λ at. subst (IsHeld 255) idle at) (λ e. let wrong : Idle ≡ Runs = sym idle ∙ e in absurd (cc))
+            (λ i p e. let wrong : Asked n ≡ Plans i p = sym (put_same h.phase l (Asked n)) ∙ e in absurd (cc)) (λ m ne. (put_other h.phase l (Asked n) m ne, put_other h.call l called m ne)) s.beside;
       },
     )
 
@@ -337,6 +363,8 @@ answers config w l h number p id reply current s at busy last =
             (record { lane = x.lane; nodes = x.nodes; table = x.table; left = x.left; none = λ _. put_same h.phase l Idle; some = λ y e. absurd (cc) })
             (λ m ne. heard_other config h.call h.call h.phase h'.phase m (w.clients m) (put_other h.phase l Idle m ne) refl (s.heard m));
         placed = s.placed;
+        beside = beside_at_client config w.nodes w.coord h l h.call h.since h'.phase s.good.operation.running (λ at. subst (IsHeld 255) done at) (λ e. let wrong : Tells (Replies p reply) ≡ Runs = sym done ∙ e in absurd (cc))
+            (λ i b e. let wrong : Idle ≡ Plans i b = sym (put_same h.phase l Idle) ∙ e in absurd (cc)) (λ m ne. (put_other h.phase l Idle m ne, refl)) s.beside;
       },
     )
 

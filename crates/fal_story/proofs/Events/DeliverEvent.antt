@@ -1,5 +1,5 @@
 -- A record comes to a node.
-use Rattle.std.proofs.Common.{◌≡◌, ◌≢◌, ⊎_elim, ℕ, zero, suc, ◌<◌, ◌==◌, true, false, cond, List, [], ◌∷◌, Some, None, is_some, refl, sym, ap, subst, ◌∙◌, arith}
+use Rattle.std.proofs.Common.{◌≡◌, ◌≢◌, inl, inr, ⊎_elim, ℕ, zero, suc, ◌<◌, ◌==◌, true, false, cond, List, [], ◌∷◌, Some, None, is_some, refl, sym, ap, subst, ◌∙◌, arith}
 use Rattle.std.specs.Prelude.{slice_get, Result, Ok, Err}
 use Rattle.std.specs.List.{All}
 use Rattle.std.specs.Result.{result_ok}
@@ -19,19 +19,23 @@ use Rattle.fal_node.specs.Letters.{Work, begun, is_asker}
 use Rattle.fal_node.specs.State.{NodeState, with_item}
 use Rattle.fal_node.specs.Step.{is_to_node, only_if, node_step}
 use Rattle.fal_wait.specs.declared.waiting_call.WaitingCall.{WaitingCall}
-use Rattle.fal_base.specs.Marks.{mark_of, with_mark}
+use Rattle.fal_base.specs.Marks.{is_newer, last_mark, mark_of, with_mark}
 use Rattle.fal_wait.specs.Waiting.{is_new, with_call}
 use Rattle.fal_wire.specs.declared.fault.WireFault.{WireFault}
 use Rattle.fal_wire.specs.declared.message.Message.{Message}
 use Rattle.fal_wire.specs.declared.message.Message.TheVariants as message
 use Rattle.fal_wire.specs.Messages.{Fits, reading}
 use Rattle.fal_story.proofs.Events.GotEvent.{AllFit, stays, got_event}
-use Rattle.fal_story.proofs.Events.HeldCalls.{MovesAt, put_moves, others_held, heard_moves, held_comes}
-use Rattle.fal_story.proofs.Events.InStep.{view_begun, Ends, sent_more, view_in, begins, ends}
-use Rattle.fal_story.proofs.Events.Shows.{Ghost, Shows, IsTidy, view_of, post_of, posts_of, calls_in}
+use Rattle.fal_story.proofs.Events.Besides.{beside_still}
+use Rattle.fal_story.proofs.Events.CommitEvents.{count_event, commit_event}
+use Rattle.fal_story.proofs.Events.Freed.{IsFreed, freed_moves, beside_freed, locks_more}
+use Rattle.fal_story.proofs.Events.LockEvents.{lock_event}
+use Rattle.fal_story.proofs.Events.HeldCalls.{others_held, heard_moves, held_comes}
+use Rattle.fal_story.proofs.Events.InStep.{at_seat, view_begun, Ends, sent_more, view_in, begins, ends}
+use Rattle.fal_story.proofs.Events.Shows.{Ghost, Shows, IsTidy, view_of, taken_of, post_of, posts_of, calls_in}
 use Rattle.fal_story.proofs.Good.{Good}
 use Rattle.fal_story.proofs.Lists.Each.{each_join}
-use Rattle.fal_story.proofs.Lists.Grown.{slice_get_front}
+use Rattle.fal_story.proofs.Lists.Grown.{put_all, slice_get_front}
 use Rattle.fal_story.proofs.Lists.WaitLists.{tidy_admit}
 use Rattle.fal_story.proofs.Phase.{Asked, Waits, IsFor, IsHeld}
 use Rattle.fal_story.proofs.Steps.Called.{taken_good}
@@ -41,70 +45,80 @@ use Rattle.fal_story.specs.World.{World, put}
 
 -- ---- a call
 
+newer_there : (w : World) (n : ℕ) (c : CallRec) → n ≢ 255 → is_new (w.nodes n).waiting c ≡ true → is_newer (mark_of c.id) (last_mark (taken_of w.nodes w.coord n) c.id.client) ≡ true
+newer_there w n c other newer = ap (λ marks. is_newer (mark_of c.id) (last_mark marks c.id.client)) (at_seat (λ m. (w.nodes m).waiting.last) w.coord.last n other) ∙ newer
+
 -- a record that is newer is that of the call under way
-asked_by : (config : Config) (w : World) (n : ℕ) (h : Ghost) (e p : ℕ) (c : CallRec) → Shows config w h → IsPosted (posts_of w.envelopes) e (Node n) p (message.Call c) → is_new (w.nodes n).waiting c ≡ true
+asked_by : (config : Config) (w : World) (n : ℕ) (h : Ghost) (e p : ℕ) (c : CallRec) → n ≢ 255 → Shows config w h → IsPosted (posts_of w.envelopes) e (Node n) p (message.Call c) → is_new (w.nodes n).waiting c ≡ true
     → (c ≡ h.call c.id.client) × (h.phase c.id.client ≡ Asked n)
-asked_by config w n h e p c s at newer = ⊎_elim (λ y. y) (λ old. absurd (cc)) (s.good.records.requests e n p c at)
+asked_by config w n h e p c other s at newer = ⊎_elim
+    (λ y. y)
+    (λ old. absurd (let both : true ≡ false = sym (newer_there w n c other newer) ∙ old in cc))
+    (s.good.records.requests e n p c at)
 
 abbrev pub with_waiter : NodeState → CallRec → NodeState
 with_waiter node c = record node { waiting = with_call node.waiting c }
 
-takes : (config : Config) (w : World) (n : ℕ) (h : Ghost) (e p : ℕ) (c : CallRec) → Shows config w h → AllFit [] → IsPosted (posts_of w.envelopes) e (Node n) p (message.Call c) → is_new (w.nodes n).waiting c ≡ true
+takes : (config : Config) (w : World) (n : ℕ) (h : Ghost) (e p : ℕ) (c : CallRec) → n ≢ 255 → Shows config w h → AllFit [] → IsPosted (posts_of w.envelopes) e (Node n) p (message.Call c) → is_new (w.nodes n).waiting c ≡ true
     → IsTidy (with_call (w.nodes n).waiting c) → Ends config w n (begun (with_waiter (w.nodes n) c))
 unfolding with_call
-takes config w n h e p c s fit at newer tidy =
+takes config w n h e p c other s fit at newer tidy =
     let node = w.nodes n in
     let l = c.id.client in
-    let asked = asked_by config w n h e p c s at newer in
+    let asked = asked_by config w n h e p c other s at newer in
     let v = view_of config w h in
-    let k = begun (with_waiter node c) in
+    let k = begun (with_waiter (w.nodes n) c) in
     let later : Ghost = record h { phase = put h.phase l (Waits n None) } in
-    let good = taken_good config v e n p c at newer s.good in
-    let same : record v { taken = put v.taken n (with_mark (v.taken n) l (mark_of c.id)); phase = later.phase } ≡ view_in config w n k later = λ i. record (view_begun config w n h i) {
-      taken = put (λ m. (w.nodes m).waiting.last) n (with_mark node.waiting.last l (mark_of c.id));
+    let good = taken_good config v e n p c at (newer_there w n c other newer) s.good in
+    let same : record v { taken = put v.taken n (with_mark (v.taken n) l (mark_of c.id)); phase = later.phase } ≡ view_in config w n k later = λ i. record (view_begun config w n h other i) {
+      taken = put v.taken n (with_mark (at_seat (λ m. (w.nodes m).waiting.last) w.coord.last n other i) l (mark_of c.id));
       phase = later.phase;
     } in
     let waiter : WaitingCall = record { ticket = node.waiting.tickets; call = c; fetch = None } in
-    let moves : MovesAt n h.phase later.phase = put_moves n l h.phase (Waits n None) (subst (IsFor n) (sym asked.1) refl) (λ z. cc) in
+    let was : IsFor n (h.phase l) = subst (IsFor n) (sym asked.1) refl in
+    let freed : (i : ℕ) → IsFreed n (h.phase i) (later.phase i) = put_all (λ i q. IsFreed n (h.phase i) q) h.phase l (Waits n None) (inr (was, (λ z. cc), (λ m x z. cc))) (λ i _. inl refl) in
+    let moves = freed_moves n h.phase later.phase freed in
     let placed = s.placed n in (
       later,
-      ends config w n k later fit (record {
-        good = subst (Good config) same good;
-        here = held_comes h.call h.phase n node.waiting.calls waiter (calls_in node.batches) (λ y. subst (IsHeld n) asked.1 y) asked.0 (s.held n);
-        others = others_held w n h.call h.phase later.phase moves (λ m _. s.held m);
-        items = sent_more (posts_of w.envelopes) [] n node.items (s.items n);
-        others_items = λ m _. s.items m;
-        heard = heard_moves config w n h.call h.phase later.phase moves s.heard;
-        placed = record { number = placed.number; limit = placed.limit; table = placed.table; blocked = placed.blocked; tidy = tidy };
-        others_placed = λ m _. s.placed m;
-      }),
+      ends config w n k later other fit
+          (beside_freed config w.nodes w.coord h later n k.node other s.good.operation.running freed (λ i. refl) (λ i. refl) (λ m _. refl) (s.beside.queues n) refl refl refl s.beside)
+          (record {
+            good = subst (Good config) same good;
+            here = held_comes h.call h.phase n node.waiting.calls waiter (calls_in node.batches) other (λ y. subst (IsHeld n) asked.1 y) asked.0 (s.held n);
+            others = others_held w n h.call h.phase later.phase moves (λ m _. s.held m);
+            items = sent_more (posts_of w.envelopes) [] n node.items (s.items n);
+            others_items = λ m _. s.items m;
+            heard = heard_moves config w n h.call h.phase later.phase moves s.heard;
+            placed = record { number = placed.number; limit = placed.limit; table = placed.table; blocked = placed.blocked; tidy = tidy };
+            others_placed = λ m _. s.placed m;
+          }),
     )
 
-call_event : (config : Config) (w : World) (n : ℕ) (h : Ghost) (e p : ℕ) (c : CallRec) → Shows config w h → AllFit [] → IsPosted (posts_of w.envelopes) e (Node n) p (message.Call c) → Ends config w n (begun (take_call (w.nodes n) c))
+call_event : (config : Config) (w : World) (n : ℕ) (h : Ghost) (e p : ℕ) (c : CallRec) → n ≢ 255 → Shows config w h → AllFit [] → IsPosted (posts_of w.envelopes) e (Node n) p (message.Call c) → Ends config w n (begun (take_call (w.nodes n) c))
 unfolding admitted
-call_event config w n h e p c s fit at =
+call_event config w n h e p c other s fit at =
     let node = w.nodes n in
     let tidy = tidy_admit node.waiting c (s.placed n).tidy in
     let admits : Ends config w n (begun (admitted node c)) =
     elim (is_new node.waiting c) as (λ b. is_new node.waiting c ≡ b → IsTidy (cond b (with_call node.waiting c) node.waiting) → Ends config w n (begun (record node { waiting = cond b (with_call node.waiting c) node.waiting }))) [
-      | true ↦ λ newer t. takes config w n h e p c s fit at newer t
-      | false ↦ λ _ _. stays config w n h s fit
+      | true ↦ λ newer t. takes config w n h e p c other s fit at newer t
+      | false ↦ λ _ _. stays config w n h other s fit
     ] refl tidy in
-    elim (is_some (row_names c.op)) as (λ b. Ends config w n (begun (cond b (admitted node c) node))) [ true ↦ admits | false ↦ stays config w n h s fit ]
+    elim (is_some (row_names c.op)) as (λ b. Ends config w n (begun (cond b (admitted node c) node))) [ true ↦ admits | false ↦ stays config w n h other s fit ]
 
 -- ---- a question of a fetch, which becomes an item
 
-ask_event : (config : Config) (w : World) (n : ℕ) (h : Ghost) (e p asker number : ℕ) (key : Key) → Shows config w h → AllFit [] → IsPosted (posts_of w.envelopes) e (Node n) p (message.FetchAsk asker number key)
+ask_event : (config : Config) (w : World) (n : ℕ) (h : Ghost) (e p asker number : ℕ) (key : Key) → n ≢ 255 → Shows config w h → AllFit [] → IsPosted (posts_of w.envelopes) e (Node n) p (message.FetchAsk asker number key)
     → Ends config w n (begun (with_item (w.nodes n) (message.FetchAsk asker number key)))
 unfolding with_item
-ask_event config w n h e p asker number key s fit at =
+ask_event config w n h e p asker number key other s fit at =
     let node = w.nodes n in
-    let start = begins config w n h s in
+    let start = begins config w n h other s in
     let item : Item = record { number = node.items_numbered; message = message.FetchAsk asker number key } in
     let k = begun (with_item node (message.FetchAsk asker number key)) in
     let placed = s.placed n in (
       h,
-      ends config w n k h fit (record {
+      ends config w n k h other fit (beside_still config w.nodes w.coord h n k.node (locks_more node.items item refl) refl refl refl s.beside) (record {
         good = start.good;
         here = start.here;
         others = start.others;
@@ -119,34 +133,34 @@ ask_event config w n h e p asker number key s fit at =
 -- ---- by the kind of the record
 
 message_event : (config : Config) (w : World) (n : ℕ) (h : Ghost) (e p : ℕ) (m : Message) → n < config.nodes → n ≢ 255 → Shows config w h → IsPosted (posts_of w.envelopes) e (Node n) p m → AllFit (take_message (w.nodes n) p m).sent → Ends config w n (take_message (w.nodes n) p m)
-message_event config w n h e p (message.Call call) there other s at fit = call_event config w n h e p call s fit at
+message_event config w n h e p (message.Call call) there other s at fit = call_event config w n h e p call other s fit at
 message_event config w n h e p (message.FetchAsk asker number key) there other s at fit =
     elim (is_asker (w.nodes n).table.nodes asker) as (λ b. Ends config w n (begun (cond b (with_item (w.nodes n) (message.FetchAsk asker number key)) (w.nodes n)))) [
-      | true ↦ ask_event config w n h e p asker number key s fit at
-      | false ↦ stays config w n h s fit
+      | true ↦ ask_event config w n h e p asker number key other s fit at
+      | false ↦ stays config w n h other s fit
     ]
 message_event config w n h e p (message.FetchGot number key what) there other s at fit = got_event config w n h e p number key what there other s at fit
-message_event config w n h e p (message.Reply id reply) there other s at fit = stays config w n h s fit
-message_event config w n h e p (message.Stale id old new changes) there other s at fit = stays config w n h s fit
-message_event config w n h e p (message.Opened id dir) there other s at fit = stays config w n h s fit
-message_event config w n h e p (message.ListAsk id version dir) there other s at fit = stays config w n h s fit
-message_event config w n h e p (message.ListPart id from names) there other s at fit = stays config w n h s fit
-message_event config w n h e p (message.Lock op keys) there other s at fit = stays config w n h s fit
-message_event config w n h e p (message.Locked op from rows) there other s at fit = stays config w n h s fit
-message_event config w n h e p (message.Count op dir) there other s at fit = stays config w n h s fit
-message_event config w n h e p (message.Counted op from number) there other s at fit = stays config w n h s fit
-message_event config w n h e p (message.Commit op updates) there other s at fit = stays config w n h s fit
-message_event config w n h e p (message.Done op from) there other s at fit = stays config w n h s fit
-message_event config w n h e p (message.Block op name) there other s at fit = stays config w n h s fit
-message_event config w n h e p (message.Blocked op from rows) there other s at fit = stays config w n h s fit
-message_event config w n h e p (message.Install op version rule rows) there other s at fit = stays config w n h s fit
-message_event config w n h e p (message.Installed op from) there other s at fit = stays config w n h s fit
+message_event config w n h e p (message.Reply id reply) there other s at fit = stays config w n h other s fit
+message_event config w n h e p (message.Stale id old new changes) there other s at fit = stays config w n h other s fit
+message_event config w n h e p (message.Opened id dir) there other s at fit = stays config w n h other s fit
+message_event config w n h e p (message.ListAsk id version dir) there other s at fit = stays config w n h other s fit
+message_event config w n h e p (message.ListPart id from names) there other s at fit = stays config w n h other s fit
+message_event config w n h e p (message.Lock op keys) there other s at fit = lock_event config w n h e p op keys other s fit at
+message_event config w n h e p (message.Locked op from rows) there other s at fit = stays config w n h other s fit
+message_event config w n h e p (message.Count op dir) there other s at fit = count_event config w n h e p op dir there other s fit at
+message_event config w n h e p (message.Counted op from number) there other s at fit = stays config w n h other s fit
+message_event config w n h e p (message.Commit op updates) there other s at fit = commit_event config w n h e p op updates there other s fit at
+message_event config w n h e p (message.Done op from) there other s at fit = stays config w n h other s fit
+message_event config w n h e p (message.Block op name) there other s at fit = stays config w n h other s fit
+message_event config w n h e p (message.Blocked op from rows) there other s at fit = stays config w n h other s fit
+message_event config w n h e p (message.Install op version rule rows) there other s at fit = stays config w n h other s fit
+message_event config w n h e p (message.Installed op from) there other s at fit = stays config w n h other s fit
 
 -- by what the bytes are read as
 read_event : (config : Config) (w : World) (n : ℕ) (h : Ghost) (e p : ℕ) (r : Result Message WireFault) → n < config.nodes → n ≢ 255 → Shows config w h → slice_get (posts_of w.envelopes) e ≡ Some (record { to = Node n; point = p; message = result_ok r })
     → AllFit (take_read (w.nodes n) p r).sent → Ends config w n (take_read (w.nodes n) p r)
 read_event config w n h e p (Ok m) there other s at fit = message_event config w n h e p m there other s at fit
-read_event config w n h e p (Err fault) there other s at fit = stays config w n h s fit
+read_event config w n h e p (Err fault) there other s at fit = stays config w n h other s fit
 
 -- an event that is enabled came to this node
 for_node : (to : Actor) (number : ℕ) (k work : Work) → only_if (is_to_node to number) k ≡ Some work → (to ≡ Node number) × (k ≡ work)
@@ -158,7 +172,7 @@ for_node (Node m) number k work is =
       | false ↦ λ t z. absurd (cc)
     ] refl is
 
-post_at : (envelopes : List Envelope) (number : ℕ) (x : Envelope) → slice_get envelopes number ≡ Some x → slice_get (posts_of envelopes) number ≡ Some (post_of x)
+pub post_at : (envelopes : List Envelope) (number : ℕ) (x : Envelope) → slice_get envelopes number ≡ Some x → slice_get (posts_of envelopes) number ≡ Some (post_of x)
 post_at [] number x e = absurd (cc)
 post_at (y ∷ ys) zero x e = ap (λ z. Some (post_of z)) (same_Some y x e)
 post_at (y ∷ ys) (suc number) x e = post_at ys number x e

@@ -16,6 +16,7 @@ use Rattle.fal_node.specs.Letters.{Work, begun}
 use Rattle.fal_node.specs.Serve.{can_serve, serve, served, service_of}
 use Rattle.fal_node.specs.State.{NodeState, batch_of, item_of, released, without_item}
 use Rattle.fal_node.specs.Step.{node_step, is_to_node, only_if, release}
+use Rattle.fal_story.proofs.Events.Shows.{is_lock}
 
 made_if : (b : Bool) (x k : Work) (P : Work → Type 0) → (b ≡ true → P x) → only_if b x ≡ Some k → P k
 made_if true x k P f is = subst P (same_Some x k is) (f refl)
@@ -76,11 +77,17 @@ served_letters node m = (service_of node m).work.sent
 abbrev pub only_sends : NodeState → Item → Work
 only_sends node item = record { node = without_item node item.number; sent = served_letters node item.message; notes = [] }
 
-service_is : (node : NodeState) (m : Message) → (service_of node m).work ≡ record { node = node; sent = served_letters node m; notes = [] }
-service_is node (message.FetchAsk asker number key) = refl
-service_is node other = refl
+-- each item but a Lock is served by records alone
+service_is : (node : NodeState) (m : Message) → is_lock m ≡ false → (service_of node m).work ≡ record { node = node; sent = served_letters node m; notes = [] }
+service_is node (message.FetchAsk asker number key) off = refl
+service_is node (message.Lock operation keys) off = absurd (cc)
+service_is node other off = refl
 
--- each item of today is served by records alone
-pub served_is : (node : NodeState) (item : Item) → served node item ≡ only_sends node item
+pub served_is : (node : NodeState) (item : Item) → is_lock item.message ≡ false → served node item ≡ only_sends node item
 unfolding served
-served_is node item = ap (λ (k : Work). record k { node = without_item k.node item.number }) (service_is node item.message)
+served_is node item off = ap (λ (k : Work). record k { node = without_item k.node item.number }) (service_is node item.message off)
+
+-- whatever the item, these records serve it
+pub served_sends : (node : NodeState) (item : Item) → (served node item).sent ≡ served_letters node item.message
+unfolding served
+served_sends node item = refl

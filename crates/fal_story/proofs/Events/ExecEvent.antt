@@ -1,5 +1,5 @@
 -- A batch is executed.
-use Rattle.std.proofs.Common.{◌≡◌, ℕ, ◌<◌, ◌==◌, true, false, cond, List, [], ◌∷◌, ◌++◌, map, Some, None, refl, sym, ap, subst, ◌∙◌, append_assoc, arith}
+use Rattle.std.proofs.Common.{◌≡◌, ◌≢◌, ℕ, ◌<◌, ◌≤◌, ◌==◌, true, false, cond, List, [], ◌∷◌, ◌++◌, map, Some, None, refl, sym, ap, subst, ◌∙◌, append_assoc, arith}
 use Rattle.std.specs.List.{All, find}
 use Rattle.std.proofs.lemmas.Option.{same_Some}
 use Rattle.fal_base.specs.declared.call.Config.{Config}
@@ -8,24 +8,34 @@ use Rattle.fal_run.specs.declared.call.BatchCall.{BatchCall}
 use Rattle.fal_node.specs.declared.event.NodeEvent.TheVariants as node
 use Rattle.fal_node.specs.Exec.{as_executed, with_executed, exec_one, exec_all, executed, execute}
 use Rattle.fal_node.specs.Letters.{Work, begun}
-use Rattle.fal_node.specs.State.{batch_of}
+use Rattle.fal_node.specs.State.{NodeState, batch_of}
 use Rattle.fal_node.specs.Step.{node_step}
 use Rattle.fal_wait.specs.Waiting.{WaitList}
 use Rattle.fal_wire.specs.Messages.{Fits}
-use Rattle.fal_story.proofs.Events.ExecStep.{InExec, Ran, call_step}
+use Rattle.fal_story.proofs.Events.Besides.{beside_stepped}
+use Rattle.fal_story.proofs.Events.ExecHolds.{holds_executed}
+use Rattle.fal_story.proofs.Events.ExecStep.{InExec, call_step}
 use Rattle.fal_story.proofs.Events.HeldCalls.{held_marked}
 use Rattle.fal_story.proofs.Events.InStep.{Ends, begins, ends}
-use Rattle.fal_story.proofs.Events.Shows.{Ghost, Shows, Held, pending_calls, calls_in}
+use Rattle.fal_story.proofs.Events.Running.{IsRunning, IsUnplanned, running_none, running_next, run_stays, running_there, running_planned}
+use Rattle.fal_story.proofs.Events.Shows.{Ghost, Shows, Held, Beside, pending_calls, calls_in, planned_lane, locks_in, listed_of}
+use Rattle.fal_story.proofs.Lists.Each.{Each}
 use Rattle.fal_story.specs.Clusters.{IsCluster}
-use Rattle.fal_story.specs.World.{World}
+use Rattle.fal_story.specs.World.{World, put}
 
 -- ---- all calls of a batch
 
-calls_run : (config : Config) (w : World) (n : ℕ) (k : Work) (h : Ghost) (list : WaitList) (bs : List Batch) (xs ps ys : List BatchCall) → n < 256 → InExec config w n k h list bs (xs ++ (ps ++ ys)) → Ran config w n (exec_all k ps) list bs (xs ++ ys)
-calls_run config w n k h list bs xs [] ys below s = (h, s)
-calls_run config w n k h list bs xs (p ∷ ps) ys below s =
-    let one = call_step config w n k h list bs xs p (ps ++ ys) below s in
-    calls_run config w n (exec_one k p) one.0 list bs xs ps ys below one.1
+-- these calls were run, each of which is planned no more
+abbrev AllRan : Config → World → ℕ → Work → NodeState → List BatchCall → Ghost → List BatchCall → Type 0
+AllRan config w n k y ps h run = (later : Ghost) × (InExec config w n k later y ps × IsRunning n h later × Each (λ p. IsUnplanned (later.phase (planned_lane p))) run)
+
+calls_run : (config : Config) (w : World) (n : ℕ) (k : Work) (h : Ghost) (y : NodeState) (xs ps ys : List BatchCall) → config.nodes ≤ 255 → n < 256 → InExec config w n k h y (xs ++ (ps ++ ys))
+    → AllRan config w n (exec_all k ps) y (xs ++ ys) h ps
+calls_run config w n k h y xs [] ys few below s = (h, (s, running_none n h, tt))
+calls_run config w n k h y xs (p ∷ ps) ys few below s =
+    let one = call_step config w n k h y xs p (ps ++ ys) few below s in
+    let rest = calls_run config w n (exec_one k p) one.0 y xs ps ys few below one.1.0 in
+    (rest.0, (rest.1.0, running_next n h one.0 rest.0 one.1.1 rest.1.1, (run_stays n (planned_lane p) one.0 rest.0 rest.1.1 one.1.2, rest.1.2)))
 
 -- ---- the batch among the batches
 
@@ -65,14 +75,21 @@ batch_among (c ∷ bs) number batch e fresh =
 
 -- ---- the event
 
-exec_ends : (config : Config) (w : World) (n number : ℕ) (k : Work) (h : Ghost) (list : WaitList) (bs : List Batch) (xs : List BatchCall) (back : List Batch) → All (λ letter. Fits letter.message) k.sent → InExec config w n k h list bs (xs ++ calls_in back)
-    → calls_in bs ≡ xs ++ calls_in (map (as_executed number) back) → Ends config w n k
-exec_ends config w n number k h list bs xs back fit s after =
-    let marked = held_marked h.call h.phase n number list.calls xs back s.step.here in
-    let here : Held h.call h.phase n k.node.waiting.calls (calls_in k.node.batches) = subst (λ (z : WaitList). Held h.call h.phase n z.calls (calls_in k.node.batches)) (sym s.waiting)
-    (subst (Held h.call h.phase n list.calls) (sym (ap calls_in s.batches ∙ after)) marked) in (
-      h,
-      ends config w n k h fit (record {
+-- when all its calls were run
+exec_ends : (config : Config) (w : World) (n number : ℕ) (k : Work) (h later : Ghost) (batch : Batch) (xs : List BatchCall) (back : List Batch) → n ≢ 255 → Shows config w h → batch_of (w.nodes n) number ≡ Some batch
+    → All (λ letter. Fits letter.message) k.sent → InExec config w n k later (with_executed (w.nodes n) number) (xs ++ calls_in back) → IsRunning n h later → Each (λ p. IsUnplanned (later.phase (planned_lane p))) batch.calls
+    → calls_in (map (as_executed number) (w.nodes n).batches) ≡ xs ++ calls_in (map (as_executed number) back) → Ends config w n k
+unfolding with_executed
+exec_ends config w n number k h later batch xs back other shown found fit s running run after =
+    let x = w.nodes n in
+    let marked = held_marked later.call later.phase n number x.waiting.calls xs back s.step.here in
+    let here : Held later.call later.phase n k.node.waiting.calls (calls_in k.node.batches) = subst (λ (z : WaitList). Held later.call later.phase n z.calls (calls_in k.node.batches)) (sym s.waiting)
+    (subst (Held later.call later.phase n x.waiting.calls) (sym (ap calls_in s.batches ∙ after)) marked) in
+    let beside : Beside config (put w.nodes n k.node) w.coord later = beside_stepped config w.nodes w.coord h later n k.node shown.good.operation.running (running_there n h later other running)
+    (λ m l p _ e. running_planned n h later running m l p e) (λ m _. running.queued m) (ap locks_in s.items ∙ shown.beside.queues n ∙ ap listed_of (sym (running.queued n)))
+    (holds_executed n number x k.node batch h later found s.batches s.holders s.numbered running run (shown.beside.holding n)) shown.beside in (
+      later,
+      ends config w n k later other fit beside (record {
         good = s.step.good;
         here = here;
         others = s.step.others;
@@ -84,16 +101,16 @@ exec_ends config w n number k h list bs xs back fit s after =
       }),
     )
 
-batch_event : (config : Config) (w : World) (n number : ℕ) (h : Ghost) (batch : Batch) → n < 256 → Shows config w h → batch_of (w.nodes n) number ≡ Some batch → batch.executed ≡ false
+batch_event : (config : Config) (w : World) (n number : ℕ) (h : Ghost) (batch : Batch) → config.nodes ≤ 255 → n < 256 → n ≢ 255 → Shows config w h → batch_of (w.nodes n) number ≡ Some batch → batch.executed ≡ false
     → All (λ letter. Fits letter.message) (executed (w.nodes n) number batch).sent → Ends config w n (executed (w.nodes n) number batch)
 unfolding executed with_executed
-batch_event config w n number h batch below s is fresh fit =
+batch_event config w n number h batch few below other s is fresh fit =
     let x = w.nodes n in
-    let start = begins config w n h s in
-    let bs = map (as_executed number) x.batches in
+    let start = begins config w n h other s in
+    let y = with_executed x number in
     let a = batch_among x.batches number batch is fresh in
     let placed = start.placed in
-    let ran = calls_run config w n (begun (with_executed x number)) h x.waiting bs a.front batch.calls (calls_in a.back) below (record {
+    let ran = calls_run config w n (begun y) h y a.front batch.calls (calls_in a.back) few below (record {
       step = record {
         good = start.good;
         here = subst (Held h.call h.phase n x.waiting.calls) a.before start.here;
@@ -107,16 +124,21 @@ batch_event config w n number h batch below s is fresh fit =
       counted = refl;
       waiting = refl;
       batches = refl;
+      items = refl;
+      holders = refl;
+      numbered = refl;
     }) in
-    exec_ends config w n number (executed x number batch) ran.0 x.waiting bs a.front a.back fit ran.1 a.after
+    exec_ends config w n number (executed x number batch) h ran.0 batch a.front a.back other s is fit ran.1.0 ran.1.1 ran.1.2 a.after
 
 pub exec_event : (config : Config) (w : World) (n number : ℕ) (h : Ghost) (work : Work) → IsCluster config → n < config.nodes → Shows config w h → node_step (w.nodes n) (node.Exec number) ≡ Some work
     → All (λ letter. Fits letter.message) work.sent → Ends config w n work
 unfolding node_step
 exec_event config w n number h work cluster there s is fit =
     let x = w.nodes n in
-    let few = cluster.few_nodes in
+    let most = cluster.few_nodes in
+    let few : config.nodes ≤ 255 = omega arith in
     let below : n < 256 = omega arith in
+    let other : n ≢ 255 = λ own. absurd (omega arith) in
     elim (batch_of x number) as (λ o. batch_of x number ≡ o → execute x number o ≡ Some work → Ends config w n work) [
       | None ↦ λ _ z. absurd (cc)
       | Some batch ↦ λ found z.
@@ -124,6 +146,6 @@ exec_event config w n number h work cluster there s is fit =
             | true ↦ λ _ y. absurd (cc)
             | false ↦ λ fresh y.
                 let same = same_Some (executed x number batch) work y in
-                subst (Ends config w n) same (batch_event config w n number h batch below s found fresh (subst (λ (k : Work). All (λ letter. Fits letter.message) k.sent) (sym same) fit))
+                subst (Ends config w n) same (batch_event config w n number h batch few below other s found fresh (subst (λ (k : Work). All (λ letter. Fits letter.message) k.sent) (sym same) fit))
           ] refl z
     ] refl is

@@ -62,10 +62,10 @@ IsFateOf s tree call named (Waits key) =
     × AreOpen s.shut (way_to_of tree call.cred key named) × IsOpen s.shut key
 IsFateOf s tree call named (Joins denied parent last keys) =
     IsSomeAnd named (λ names. IsPlannedAs s.table tree s.me call (footprint_of tree call.cred named) (record { call = call; denied = denied; parent = parent; last = last }) denied names)
-    × AreOpen s.shut (footprint_of tree call.cred named)
+    × AreOpen s.shut (footprint_of tree call.cred named) × (keys ≡ footprint_of tree call.cred named)
 
 -- it is skipped, or leaves, as said; or it waits for a key to which its walk comes, which is not shut, as none before it is;
--- or it is planned as the tree says, and no key on which it rests is shut
+-- or it is planned as the tree says, no key on which it rests is shut, and its batch holds those keys for it
 abbrev pub IsFate : Setting → Tree → CallRec → Fate → Type 0
 IsFate s tree call f = IsFateOf s tree call (row_names call.op) f
 
@@ -154,17 +154,24 @@ module _ (s : Setting) (tree : Tree) (call : CallRec) where
   open_stopped names errno is off =
       subst (λ w. AreOpen s.shut (way tree call.cred names ++ last_of_walk w)) (sym is) (subst (AreOpen s.shut) (sym (append-nil (way tree call.cred names))) off)
 
+  held_stopped : (names : List (List ℕ)) (errno : Errno) (keys : List Key) → walk tree call.cred names ≡ tree_walk.Stop errno → way tree call.cred names ≡ keys → keys ≡ rests names
+  held_stopped names errno keys is by = sym by ∙ sym (append-nil (way tree call.cred names)) ∙ ap (λ w. way tree call.cred names ++ last_of_walk w) (sym is)
+
   -- the walk is ready
   module _ (names : List (List ℕ)) (dir : Option Inode) (parent : Option Dentry) (passed : List ℕ) (last : Key) (keys : List Key)
-      (ends : walk tree call.cred names ≡ tree_walk.Ready dir passed last) (same : option_map dentry_of dir ≡ parent) (off : AreOpen s.shut (way tree call.cred names)) where
+      (ends : walk tree call.cred names ≡ tree_walk.Ready dir passed last) (same : option_map dentry_of dir ≡ parent) (by : way tree call.cred names ≡ keys) (off : AreOpen s.shut (way tree call.cred names)) where
     abbrev joins : Fate
     joins = Joins false parent last (keys ++ last ∷ [])
+
+    -- the keys that are held are those on which the call rests
+    held : keys ++ last ∷ [] ≡ rests names
+    held = λ i. sym by i ++ last_of_walk (sym ends i)
 
     own_key : owner s.table last ≡ s.me → Is names (if is_among last s.shut then Skips else joins)
     own_key own =
         elim (is_among last s.shut) as (λ b. is_among last s.shut ≡ b → Is names (if b then Skips else joins)) [
           | true ↦ λ is. inr (last, crossed_last names dir passed last ends, is)
-          | false ↦ λ is. (((dir, (passed, ends, same)), crossed_way names, own, crossed_last names dir passed last ends), open_ready names dir passed last ends off is)
+          | false ↦ λ is. (((dir, (passed, ends, same)), crossed_way names, own, crossed_last names dir passed last ends), open_ready names dir passed last ends off is, held)
         ] refl
 
     by_parent : goes_by_parent s.table (last_of names) ≡ true → Is names (fate_at s true parent keys last)
@@ -194,14 +201,15 @@ module _ (s : Setting) (tree : Tree) (call : CallRec) where
   fate_at_end name names (Missing key keys) here fit met =
       let found = way tree call.cred (name ∷ names) in
       (comes_among key found keys met.0, among_itself (up_to key found), subst (AreOpen s.shut) (sym met.0) met.2, all_among (IsOpen s.shut) (keys ++ key ∷ []) key met.2 (among_end keys key))
-  fate_at_end name names (Stop errno keys) here fit met = ((met.0, crossed_way (name ∷ names)), open_stopped (name ∷ names) Eacces met.0 (subst (AreOpen s.shut) (sym met.1) met.2))
+  fate_at_end name names (Stop errno keys) here fit met =
+      ((met.0, crossed_way (name ∷ names)), open_stopped (name ∷ names) Eacces met.0 (subst (AreOpen s.shut) (sym met.1) met.2), held_stopped (name ∷ names) Eacces keys met.0 met.1)
   fate_at_end name names (Ready parent inos keys) here fit met =
       let last = last_key parent (last_name (name ∷ names)) in
-      at_last (name ∷ names) met.0.0 parent inos last keys met.0.1 met.0.2 (subst (AreOpen s.shut) (sym met.1) met.2) (λ by. last_owner s.table last name names met.0.3 fit by ∙ here by)
+      at_last (name ∷ names) met.0.0 parent inos last keys met.0.1 met.0.2 met.1 (subst (AreOpen s.shut) (sym met.1) met.2) (λ by. last_owner s.table last name names met.0.3 fit by ∙ here by)
 
   fate_walks : AreDirs tree s.dentries → (names : List (List ℕ)) → path_field.Fits names → LeadsHere names → Is names (fate_walked s names (walk_of s call names))
   unfolding path_field path_names
-  fate_walks dirs [] fit here = at_last [] None None [] root_key [] refl refl (All-nil (IsOpen s.shut)) (λ by. here by)
+  fate_walks dirs [] fit here = at_last [] None None [] root_key [] refl refl refl (All-nil (IsOpen s.shut)) (λ by. here by)
   fate_walks dirs (name ∷ names) fit here = fate_at_end name names (walk_of s call (name ∷ names)) here (last_fits None name names fit.0.1.1) (met_way tree s.dentries call.cred s.shut dirs (name ∷ names))
 
   fate_named : AreDirs tree s.dentries → (names : List (List ℕ)) → path_field.Fits names → Is names (fate_by s call (Some names))

@@ -25,16 +25,21 @@ use Rattle.fal_wait.specs.Waiting.{WaitList}
 use Rattle.fal_wire.specs.declared.message.Found.{Found}
 use Rattle.fal_wire.specs.declared.message.Message.TheVariants as message
 use Rattle.fal_wire.specs.Messages.{Fits}
+use Rattle.fal_story.proofs.Events.Besides.{beside_stepped}
+use Rattle.fal_story.proofs.Events.Doing.{awaited}
+use Rattle.fal_story.proofs.Events.Elsewhere.{stays_there}
+use Rattle.fal_story.proofs.Events.GatherHolds.{IsGrown, holds_after, others_planned}
 use Rattle.fal_story.proofs.Events.GatherPhases.{crossed, phase, moves_at, may_move, new_off, reach_new, held_after}
 use Rattle.fal_story.proofs.Events.Going.{fates_stay}
 use Rattle.fal_story.proofs.Events.HeldCalls.{others_held, heard_moves}
-use Rattle.fal_story.proofs.Events.InStep.{view_begun, InStep, Ends, ends, view_in, letter_post, letter_posts, sent_more}
-use Rattle.fal_story.proofs.Events.Shows.{Ghost, Shows, Held, AreSent, IsPlaced, IsTidy, view_of, posts_of, askings_of, pending_calls, calls_in, resting}
+use Rattle.fal_story.proofs.Events.InStep.{at_seat, view_begun, InStep, Ends, ends, view_in, letter_post, letter_posts, sent_more}
+use Rattle.fal_story.proofs.Events.Shows.{Ghost, Shows, Held, AreSent, IsPlaced, IsTidy, view_of, posts_of, askings_of, pending_calls, calls_in, operating, shut_of, last_of, locks_in, Beside}
 use Rattle.fal_story.proofs.Families.Asking.{IsForKey}
 use Rattle.fal_story.proofs.Good.{Good}
 use Rattle.fal_story.proofs.Families.Asking.{Crosses}
 use Rattle.fal_story.proofs.Families.Clear.{IsShut}
 use Rattle.fal_story.proofs.Lists.Each.{Each}
+use Rattle.fal_story.proofs.Lists.GatherKeys.{HasKeys, node_keys}
 use Rattle.fal_story.proofs.Lists.GatherLetters.{AreLetters, Asks, Errand, Parts, each_errand, errands_of, gathered_letters, letter_of}
 use Rattle.fal_story.proofs.Lists.GatherLists.{IsGathered, Leaver, leavers, gathered_node, none_leave}
 use Rattle.fal_story.proofs.Lists.Grown.{put_same, put_put, put_back}
@@ -107,12 +112,19 @@ record IsAfter (x y : NodeState) (after : WaitList) (batch : List BatchCall) : T
   shut : y.locks.shut ≡ x.locks.shut
   waiting : y.waiting ≡ after
   items : y.items ≡ x.items
+  last_operation : y.last_operation ≡ x.last_operation
   drawn : y.drawn ≡ x.drawn
   batches : calls_in y.batches ≡ calls_in x.batches ++ batch
 
 calls_push : (bs : List Batch) (b : Batch) → b.executed ≡ false → calls_in (bs ++ b ∷ []) ≡ calls_in bs ++ b.calls
 calls_push [] b is = ap (λ e. cond e [] b.calls ++ []) is ∙ append-nil b.calls
 calls_push (c ∷ bs) b is = ap (λ xs. pending_calls c ++ xs) (calls_push bs b is) ∙ sym (append_assoc (pending_calls c) (calls_in bs) b.calls)
+
+-- no batch is new where no call joins
+grown_gather : (x : NodeState) (fetches : List Wanted) (tickets : List ℕ) (batch : List BatchCall) (keys : List Key) → IsGrown x (with_batch (with_waiting x fetches tickets) batch keys) batch keys
+unfolding with_waiting batched
+grown_gather x fetches tickets [] keys = inl (record { none = refl; batches = refl; holders = refl; numbered = refl })
+grown_gather x fetches tickets (call ∷ calls) keys = inr (record { batches = refl; holders = refl; numbered = refl })
 
 after_gather : (x : NodeState) (fetches : List Wanted) (tickets : List ℕ) (batch : List BatchCall) (keys : List Key)
     → IsAfter x (with_batch (with_waiting x fetches tickets) batch keys) (without_calls (with_fetches x.waiting fetches) tickets) batch
@@ -127,6 +139,7 @@ after_gather x fetches tickets [] keys = record {
   shut = refl;
   waiting = refl;
   items = refl;
+  last_operation = refl;
   drawn = refl;
   batches = sym (append-nil (calls_in x.batches));
 }
@@ -140,6 +153,7 @@ after_gather x fetches tickets (call ∷ calls) keys = record {
   shut = refl;
   waiting = refl;
   items = refl;
+  last_operation = refl;
   drawn = refl;
   batches = calls_push x.batches (record { number = x.batches_numbered; calls = call ∷ calls; executed = false }) refl;
 }
@@ -151,12 +165,12 @@ kept_at f n x is = sym (ap (put f n) is ∙ put_back f n)
 
 module _ (config : Config) (w : World) (n : ℕ) (h : Ghost) (there : n < config.nodes) (other : n ≢ 255) (s : Shows config w h) (y : NodeState) (after : WaitList) (opened : List PendingFetch) (batch : List BatchCall)
     (left : List Leaver) (g : IsGathered (setting_at (w.nodes n)) (w.nodes n).waiting after opened batch left) (a : IsAfter (w.nodes n) y after batch)
-    (errands : List Errand) (sent : List Letter) (l : AreLetters (w.nodes n) opened left errands sent) (none : left ≡ []) where
+    (errands : List Errand) (sent : List Letter) (l : AreLetters (w.nodes n) opened left errands sent) (none : left ≡ []) (keys : List Key) (grown : IsGrown (w.nodes n) y batch keys) (covered : Each (HasKeys (setting_at (w.nodes n)) keys) batch) where
   abbrev later : ℕ → Phase
-  later = phase config w n h there s after opened batch left g
+  later = phase config w n h there other s after opened batch left g
 
   abbrev rests : ℕ → List Key
-  rests = crossed config w n h there s
+  rests = crossed config w n h there other s
 
   abbrev v : View
   v = view_of config w h
@@ -164,8 +178,14 @@ module _ (config : Config) (w : World) (n : ℕ) (h : Ghost) (there : n < config
   abbrev moved : View
   moved = record v { opened = put v.opened n after.opened; phase = later; op = record v.op { crossed = rests } }
 
+  opened_at : v.opened n ≡ (w.nodes n).waiting.opened
+  opened_at = at_seat (λ m. (w.nodes m).waiting.opened) w.coord.asked n other
+
+  fetches_at : v.fetches n ≡ askings_of (w.nodes n).waiting.fetches
+  fetches_at = at_seat (λ m. askings_of (w.nodes m).waiting.fetches) (awaited w.coord.stage) n other
+
   moved_is : Good config moved
-  moved_is = moved_good config (record v { opened = put v.opened n after.opened }) later rests (may_move config w n h there s after opened batch left g) (raised_good config v n after.opened g.below s.good)
+  moved_is = moved_good config (record v { opened = put v.opened n after.opened }) later rests (may_move config w n h there other s after opened batch left g) (raised_good config v n after.opened (subst (λ count. count ≤ after.opened) (sym opened_at) g.below) s.good)
 
   new_at : (f : PendingFetch) → IsIn f opened → ((w.nodes n).waiting.opened ≤ f.number) × (f.number < after.opened)
   new_at f m = each_in (λ (z : PendingFetch). ((w.nodes n).waiting.opened ≤ z.number) × (z.number < after.opened)) opened f g.new m
@@ -178,10 +198,10 @@ module _ (config : Config) (w : World) (n : ℕ) (h : Ghost) (there : n < config
       each_map (IsPendable moved n) (λ (f : PendingFetch). record { number = f.number; key = f.key }) opened
       (each_by _ opened (λ f m. (
         below_count f m,
-        λ e p key what sent. let below = s.good.asking.numbers.got e n p f.number key what sent in let new = (new_at f m).0 in absurd (omega arith),
-        λ e p to key sent. let below = (s.good.asking.numbers.ask e p to n f.number key sent).1 in let new = (new_at f m).0 in absurd (omega arith),
-        λ l waits. reach_new config w n h there s after opened batch left g l f m waits,
-        new_off config w n h there s after opened batch left g f m,
+        λ e p key what sent. let below = subst (λ count. f.number < count) opened_at (s.good.asking.numbers.got e n p f.number key what sent) in let new = (new_at f m).0 in absurd (omega arith),
+        λ e p to key sent. let below = subst (λ count. f.number < count) opened_at (s.good.asking.numbers.ask e p to n f.number key sent).1 in let new = (new_at f m).0 in absurd (omega arith),
+        λ l waits. reach_new config w n h there other s after opened batch left g l f m waits,
+        new_off config w n h there other s after opened batch left g f m,
       )))
 
   abbrev pended : View
@@ -191,7 +211,7 @@ module _ (config : Config) (w : World) (n : ℕ) (h : Ghost) (there : n < config
   pended_is = all_pended config moved n (askings_of opened) there other pendable moved_is
 
   fetches_are : v.fetches n ++ askings_of opened ≡ askings_of after.fetches
-  fetches_are = sym (ap askings_of g.fetches ∙ map-append (λ (f : PendingFetch). record { number = f.number; key = f.key }) (w.nodes n).waiting.fetches opened)
+  fetches_are = ap (λ fs. fs ++ askings_of opened) fetches_at ∙ sym (ap askings_of g.fetches ∙ map-append (λ (f : PendingFetch). record { number = f.number; key = f.key }) (w.nodes n).waiting.fetches opened)
 
   for_key : (f : PendingFetch) → IsIn f opened → IsForKey pended.fetches n f.number f.key
   for_key f m j b at same =
@@ -228,16 +248,16 @@ module _ (config : Config) (w : World) (n : ℕ) (h : Ghost) (there : n < config
   good_is = subst (Good config) same sent_is
     where
       same : record pended { posts = v.posts ++ posts_by (length w.commits) (w.nodes n) errands } ≡ view_in config w n work then
-      same = λ i. record (view_begun config w n h i) {
+      same = λ i. record (view_begun config w n h other i) {
         rows = kept_at v.rows n y.rows a.rows i;
-        replica = kept_at v.replica n y.replica a.replica i;
+        replica = kept_at v.replica n y.replica (a.replica ∙ sym (at_seat (λ m. (w.nodes m).replica) w.coord.replica n other)) i;
         fetches = put v.fetches n ((fetches_are ∙ ap (λ (l : WaitList). askings_of l.fetches) (sym a.waiting)) i);
         opened = put v.opened n (sym a.waiting i).opened;
-        taken = kept_at v.taken n y.waiting.last (ap (λ (l : WaitList). l.last) a.waiting ∙ g.last) i;
+        taken = kept_at v.taken n y.waiting.last (ap (λ (l : WaitList). l.last) a.waiting ∙ g.last ∙ sym (at_seat (λ m. (w.nodes m).waiting.last) w.coord.last n other)) i;
         drawn = kept_at v.drawn n y.drawn a.drawn i;
         posts = v.posts ++ posts_by (length w.commits) (w.nodes n) errands;
         phase = later;
-        op = resting (kept_at (λ m. (w.nodes m).locks.shut) n y.locks.shut a.shut i) rests;
+        op = operating (kept_at (shut_of w.nodes) n y.locks.shut a.shut i) (kept_at (last_of w.nodes) n y.last_operation a.last_operation i) w.coord then;
       }
 
   placed_is : IsPlaced config n y
@@ -252,19 +272,26 @@ module _ (config : Config) (w : World) (n : ℕ) (h : Ghost) (there : n < config
   in_step : InStep config w n work then y.waiting.calls (calls_in y.batches)
   in_step = record {
     good = good_is;
-    here = subst (Held h.call later n y.waiting.calls) (sym a.batches) (subst (λ (l : WaitList). Held h.call later n l.calls (calls_in (w.nodes n).batches ++ batch)) (sym a.waiting) (held_after config w n h there s after opened batch left g));
-    others = others_held w n h.call h.phase later (moves_at config w n h there s after opened batch left g) (λ m _. s.held m);
+    here = subst (Held h.call later n y.waiting.calls) (sym a.batches) (subst (λ (l : WaitList). Held h.call later n l.calls (calls_in (w.nodes n).batches ++ batch)) (sym a.waiting) (held_after config w n h there other s after opened batch left g));
+    others = others_held w n h.call h.phase later (moves_at config w n h there other s after opened batch left g) (λ m _. s.held m);
     items = subst (AreSent (posts_of w.envelopes ++ letter_posts (length w.commits) letters) n) (sym a.items) (sent_more (posts_of w.envelopes) (letter_posts (length w.commits) letters) n (w.nodes n).items (s.items n));
     others_items = λ m _. s.items m;
-    heard = heard_moves config w n h.call h.phase later (moves_at config w n h there s after opened batch left g) s.heard;
+    heard = heard_moves config w n h.call h.phase later (moves_at config w n h there other s after opened batch left g) s.heard;
     placed = placed_is;
     others_placed = λ m _. s.placed m;
   }
 
+  -- what is known beside: no record that was kept is gone, and the coordinator's calls stay
+  beside_is : Beside config (put w.nodes n y) w.coord then
+  beside_is =
+      beside_stepped config w.nodes w.coord h then n y s.good.operation.running (stays_there n h.call h.phase later other (moves_at config w n h there other s after opened batch left g))
+      (others_planned config w n h there other s after opened batch left g) (λ m _. refl) (ap locks_in a.items ∙ s.beside.queues n)
+      (holds_after config w n h there other s after opened batch left g y keys grown covered) s.beside
+
   gather_ends : All (λ letter. Fits letter.message) sent → Ends config w n (record { node = y; sent = sent; notes = [] })
   gather_ends =
       subst (λ (ls : List Letter). All (λ letter. Fits letter.message) ls → Ends config w n (record { node = y; sent = ls; notes = [] })) (sym l.letters_are)
-      (λ fit. (then, ends config w n work then fit in_step))
+      (λ fit. (then, ends config w n work then other fit beside_is in_step))
 
 -- ---- the event
 
@@ -283,11 +310,12 @@ gathered_ends config w n h there other s fit =
     let x = w.nodes n in
     let plan = plan_at x in
     let tidy = (s.placed n).tidy in
-    let none = none_leave x tidy (fates_stay config w n h there s) in
+    let none = none_leave x tidy (fates_stay config w n h there other s) in
     gather_ends config w n h there other s (with_batch (with_waiting x plan.fetches (leaving plan)) (batch_calls x.waiting plan.calls) plan.keys)
     (without_calls (with_fetches x.waiting plan.fetches) (leaving plan)) (pending_of x.waiting.opened plan.fetches) (batch_calls x.waiting plan.calls) (leavers x.waiting plan.away)
     (gathered_node x tidy) (after_gather x plan.fetches (leaving plan) (batch_calls x.waiting plan.calls) plan.keys)
-    (errands_of x.waiting x.waiting.opened plan.sends) (gather_letters x x.waiting.opened plan.sends) (gathered_letters x tidy) (ap (leavers x.waiting) none) fit
+    (errands_of x.waiting x.waiting.opened plan.sends) (gather_letters x x.waiting.opened plan.sends) (gathered_letters x tidy) (ap (leavers x.waiting) none)
+    plan.keys (grown_gather x plan.fetches (leaving plan) (batch_calls x.waiting plan.calls) plan.keys) (node_keys x tidy) fit
 
 pub gather_event : (config : Config) (w : World) (n : ℕ) (h : Ghost) (k : Work) → IsCluster config → n < config.nodes → Shows config w h → node_step (w.nodes n) Gather ≡ Some k
     → All (λ letter. Fits letter.message) k.sent → Ends config w n k

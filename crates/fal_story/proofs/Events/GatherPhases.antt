@@ -15,9 +15,11 @@ use Rattle.fal_wait.specs.Waiting.{WaitList}
 use Rattle.fal_story.proofs.Events.Fates.{IsFate, rests_by, rests_open}
 use Rattle.fal_story.proofs.Events.Going.{fate_now}
 use Rattle.fal_story.proofs.Events.HeldCalls.{MovesAt}
+use Rattle.fal_story.proofs.Events.InStep.{at_seat}
 use Rattle.fal_story.proofs.Events.Shows.{Ghost, Shows, Held, WaitsAt, PlannedAt, view_of, lane_of, planned_lane, calls_in}
 use Rattle.fal_story.proofs.Families.Plans.{IsPlanned}
 use Rattle.fal_story.proofs.Lists.Each.{Each, Apart, each_weaker, each_join}
+use Rattle.fal_story.proofs.Lists.GatherKeys.{HasKeys}
 use Rattle.fal_story.proofs.Lists.GatherLists.{IsKept, IsJoined, IsGathered, Leaver}
 use Rattle.fal_story.proofs.Lists.Grown.{put_same}
 use Rattle.fal_story.proofs.Lists.Members.{IsIn, each_in, each_by, find_in, find_apart, find_absent, same_number, apart_join, apart_same, apart_back}
@@ -28,9 +30,11 @@ use Rattle.fal_story.proofs.Families.Clear.{IsShut}
 use Rattle.fal_story.proofs.Lists.OpenedFetches.{IsAsked, bound_call}
 use Rattle.fal_story.proofs.Trees.Met.{AreOpen, IsOpen}
 use Rattle.fal_story.proofs.Trees.Among.{all_among}
+use Rattle.fal_dentry.specs.Walk.{is_among}
 use Rattle.fal_locks.specs.declared.holder.Shut.{Shut}
 use Rattle.fal_locks.specs.Locks.{shut_keys_of}
 use Rattle.fal_story.proofs.Steps.Moved.{IsClear, MayMove, held_for}
+use Rattle.fal_story.proofs.Trees.PathWalks.{crosses_by, reaches_by}
 use Rattle.fal_story.proofs.Trees.Standing.{Reaches, table_of, tree_now}
 use Rattle.fal_story.proofs.View.{View}
 use Rattle.fal_story.specs.World.{World, put}
@@ -111,7 +115,7 @@ off_key : (shut : Option Shut) (key : Key) → IsOpen (shut_keys_of shut) key �
 off_key None key off is = is
 off_key (Some s) key off is = let wrong : false ≡ true = sym off ∙ is in absurd (cc)
 
-module _ (config : Config) (w : World) (n : ℕ) (h : Ghost) (there : n < config.nodes) (s : Shows config w h) where
+module _ (config : Config) (w : World) (n : ℕ) (h : Ghost) (there : n < config.nodes) (other : n ≢ 255) (s : Shows config w h) where
   abbrev list : WaitList
   list = (w.nodes n).waiting
 
@@ -121,11 +125,14 @@ module _ (config : Config) (w : World) (n : ℕ) (h : Ghost) (there : n < config
   abbrev setting : Setting
   setting = setting_at (w.nodes n)
 
+  opened_at : (view_of config w h).opened n ≡ list.opened
+  opened_at = at_seat (λ m. (w.nodes m).waiting.opened) w.coord.asked n other
+
   waits_at : (c : WaitingCall) → IsIn c list.calls → WaitsAt h.call h.phase n c
   waits_at c m = each_in (WaitsAt h.call h.phase n) list.calls c (s.held n).waiters m
 
   fate_at : (c : WaitingCall) → IsIn c list.calls → IsFate setting tree c.call (fate setting c.call)
-  fate_at c m = fate_now config w n h there s c (waits_at c m)
+  fate_at c m = fate_now config w n h there other s c (waits_at c m)
 
   -- the keys on which a call rests by its fate
   abbrev rests : CallRec → List Key
@@ -137,6 +144,10 @@ module _ (config : Config) (w : World) (n : ℕ) (h : Ghost) (there : n < config
 
   free_crossed : (l m : ℕ) → h.phase l ≡ Waits m None → rests (h.call l) ≡ crossed l
   free_crossed l m e = ap (crossed_from (rests (h.call l)) (h.crossed l)) (sym e)
+
+  -- a call that was planned rests on the keys on which it did
+  pub planned_crossed : (l m : ℕ) (x : BatchCall) → h.phase l ≡ Plans m x → h.crossed l ≡ crossed l
+  planned_crossed l m x e = ap (crossed_from (rests (h.call l)) (h.crossed l)) (sym e)
 
   -- what holds of a free call and of the keys on which it rests holds of the lane's
   by_lane : (P : CallRec → List Key → Type 0) (c : WaitingCall) (l : ℕ) → IsIn c list.calls → c.fetch ≡ None → lane_of c ≡ l → P c.call (rests c.call) → P (h.call l) (crossed l)
@@ -184,7 +195,7 @@ module _ (config : Config) (w : World) (n : ℕ) (h : Ghost) (there : n < config
     -- ---- the new fetches
 
     old_below : (l number : ℕ) → h.phase l ≡ Waits n (Some number) → number < list.opened
-    old_below l number e = s.good.asking.waits_drawn l n number e
+    old_below l number e = subst (λ count. number < count) opened_at (s.good.asking.waits_drawn l n number e)
 
     numbers_apart : Apart (λ f. f.number) opened
     numbers_apart = apart_back (λ (f : PendingFetch). f.number) list.fetches opened (subst (Apart (λ (f : PendingFetch). f.number)) g.fetches g.tidy.apart)
@@ -203,7 +214,7 @@ module _ (config : Config) (w : World) (n : ℕ) (h : Ghost) (there : n < config
     waits_for_key : (c : WaitingCall) (key : Key) → IsIn c list.calls → fate setting c.call ≡ WaitsFor key → ComesTo c.call (rests c.call) key
     waits_for_key c key m is =
         let z = subst (IsFate setting tree c.call) is (fate_at c m) in
-        subst (λ f. ComesTo c.call (rests_by tree c.call f) key) (sym is) (z.0, z.1)
+        subst (λ f. ComesTo c.call (rests_by tree c.call f) key) (sym is) (reaches_by tree c.call key z.0, crosses_by tree c.call key (rests_by tree c.call (WaitsFor key)) z.0 z.1)
 
     -- a call that waits on a new fetch was free, and its walk comes to the key
     kept_reach : (l : ℕ) (f : PendingFetch) → IsIn f opened → WaitsIn n after.calls l (Waits n (Some f.number)) → ComesTo (h.call l) (crossed l) f.key
@@ -270,7 +281,7 @@ module _ (config : Config) (w : World) (n : ℕ) (h : Ghost) (there : n < config
         inr (subst (λ p. MayMove config risen l (h.phase l) p (crossed l)) (sym is) (
           held,
           subst (λ m. f.number < m) (sym (put_same (view_of config w h).opened n after.opened)) new.1,
-          λ j a at_place same. let below = (s.good.asking.fetches n j a at_place).0 in let low = new.0 in absurd (omega arith),
+          λ j a at_place same. let below = subst (λ count. a.number < count) opened_at (s.good.asking.fetches n j a at_place).0 in let low = new.0 in absurd (omega arith),
           free_off was l k.1.0 e.0 lane,
         )))
         k.1.1
@@ -299,6 +310,17 @@ module _ (config : Config) (w : World) (n : ℕ) (h : Ghost) (there : n < config
         subst (λ p. MayMove config risen l (h.phase l) p (crossed l)) (sym y.1.2)
         (held, there, by_lane (λ call keys. IsPlanned (table_of config) tree n call keys x) j.0 l j.1.0 j.1.1 lane planned, free_off j.0 l j.1.0 j.1.1 lane)
 
+    -- the batch holds the keys on which a call that joins rests
+    pub joined_keys : (keys : List Key) → Each (HasKeys setting keys) batch → (l : ℕ) (x : BatchCall) → IsIn x batch → planned_lane x ≡ l → (key : Key) → is_among key (crossed l) ≡ true → is_among key keys ≡ true
+    joined_keys keys covered l x m lane =
+        let j = each_in (IsJoined setting list) batch x g.joined m in
+        let of : lane_of j.0 ≡ l = ap (λ (c : CallRec). c.id.client) (sym j.1.2) ∙ lane in
+        let fate_is = j.1.3.1 in
+        let own = (subst (IsFate setting tree j.0.call) fate_is (fate_at j.0 j.1.0)).2 in
+        let all = each_in (HasKeys setting keys) batch x covered m j.1.3.0 (ap (λ (c : CallRec). fate setting c) j.1.2 ∙ fate_is) in
+        by_lane (λ call ks. (key : Key) → is_among key ks ≡ true → is_among key keys ≡ true) j.0 l j.1.0 j.1.1 of
+        (λ key among. all key (ap (is_among key) own ∙ ap (λ f. is_among key (rests_by tree j.0.call f)) (sym fate_is) ∙ among))
+
     still : (l : ℕ) → phase l ≡ h.phase l → ((phase l ≡ h.phase l) × (h.crossed l ≡ crossed l)) ⊎ MayMove config risen l (h.phase l) (phase l) (crossed l)
     still l same = still_moves config risen l (rests (h.call l)) (h.crossed l) (h.phase l) (phase l) same
 
@@ -315,7 +337,7 @@ module _ (config : Config) (w : World) (n : ℕ) (h : Ghost) (there : n < config
     waiters =
         each_by _ after.calls (λ c m.
         let was = kept_was c m in
-        (listed_waits n after.calls batch h.phase c (g.kept_apart lanes) m, was.1.1 ∙ (waits_at was.0 was.1.0).1 ∙ ap (λ (k : CallRec). h.call k.id.client) (sym was.1.1)))
+        (listed_waits n after.calls batch h.phase c (g.kept_apart lanes) m, was.1.1 ∙ (waits_at was.0 was.1.0).1 ∙ ap (λ (k : CallRec). h.call k.id.client) (sym was.1.1), (waits_at was.0 was.1.0).2))
 
     new_planned : Each (PlannedAt h.call phase n) batch
     new_planned =

@@ -1,4 +1,4 @@
--- What becomes of the calls that wait at a node while nothing is blocked or shut and no name has a rule: each waits for a directory, or is ready.
+-- What becomes of the calls that wait at a node while nothing is blocked and no name has a rule: none leaves, and where nothing is shut each waits for a directory, or is ready.
 use Rattle.std.proofs.Common.{◌≡◌, ◌≢◌, ⊎_elim, ℕ, ◌<◌, true, false, List, [], Option, Some, None, IsTrue, refl, sym, ap, subst, ◌∙◌}
 use Rattle.fal_base.specs.declared.barred.Barred.TheVariants.{Nothing}
 use Rattle.fal_base.specs.declared.call.CallRec.{CallRec}
@@ -15,42 +15,51 @@ use Rattle.fal_exec.specs.RowCall.{row_names}
 use Rattle.fal_locks.specs.Locks.{shut_keys_of}
 use Rattle.fal_node.specs.Gather.{setting_at}
 use Rattle.fal_node.specs.State.{blocked_names}
-use Rattle.fal_place.specs.Placement.{route}
+use Rattle.fal_place.specs.Placement.{Placement, route}
 use Rattle.fal_wait.specs.declared.waiting_call.WaitingCall.{WaitingCall}
 use Rattle.fal_wire.specs.Names.{path_field, path_arg_field}
-use Rattle.fal_wire.specs.Ops.{op_field, path_and_mode, path_and_want, path_and_size}
+use Rattle.fal_wire.specs.Ops.{op_field, path_and_mode, path_and_want, path_and_owner, path_and_size}
 use Rattle.fal_story.proofs.Events.Fates.{IsFate, IsFateOf, fate_is, named_op}
+use Rattle.fal_story.proofs.Events.InStep.{at_seat}
 use Rattle.fal_story.proofs.Events.Shows.{Ghost, Shows, WaitsAt, lane_of}
 use Rattle.fal_story.proofs.Lists.Each.{Each, each_weaker}
 use Rattle.fal_story.proofs.Lists.GatherPlan.{Stays}
 use Rattle.fal_story.proofs.Phase.{Idle, IsFor}
 use Rattle.fal_story.proofs.Phase as phase
 use Rattle.fal_story.proofs.Ranges.FateRanges.{never_by_parent, not_elsewhere, sent_here}
+use Rattle.fal_story.proofs.Trees.Met.{AreDirs}
 use Rattle.fal_story.proofs.Trees.Standing.{table_of, tree_now}
 use Rattle.fal_story.specs.Clusters.{is_served}
 use Rattle.fal_story.specs.World.{World}
 
 -- ---- the names of a call
 
--- a served call has one good path
+-- a served call that goes to a node has one good path
 abbrev HasNames : Op → Type 0
 HasNames call = (names : List (List ℕ)) × ((row_names call ≡ Some names) × path_field.Fits names)
 
-names_of : (call : Op) → IsTrue (is_served call) → op_field.Fits call → HasNames call
-unfolding op_field path_and_mode path_and_want path_and_size path_arg_field
-names_of (op.Mkdir (Good names) mode) served fits = (names, (refl, fits.0))
-names_of (op.Mkdir (Bad fault raw) mode) served fits = absurd (fits.0)
-names_of (op.Create (Good names) mode) served fits = (names, (refl, fits.0))
-names_of (op.Create (Bad fault raw) mode) served fits = absurd (fits.0)
-names_of (op.Stat (Good names)) served fits = (names, (refl, fits))
-names_of (op.Stat (Bad fault raw)) served fits = absurd fits
-names_of (op.Access (Good names) want) served fits = (names, (refl, fits.0))
-names_of (op.Access (Bad fault raw) want) served fits = absurd (fits.0)
-names_of (op.Truncate (Good names) size) served fits = (names, (refl, fits.0))
-names_of (op.Truncate (Bad fault raw) size) served fits = absurd (fits.0)
-names_of (op.Unlink (Good names)) served fits = (names, (refl, fits))
-names_of (op.Unlink (Bad fault raw)) served fits = absurd fits
-names_of other served fits = absurd (cc)
+names_of : (table : Placement) (n : ℕ) (call : Op) → IsTrue (is_served call) → op_field.Fits call → addressee table call ≡ Node n → HasNames call
+unfolding op_field path_and_mode path_and_want path_and_owner path_and_size path_arg_field addressee
+names_of table n (op.Mkdir (Good names) mode) served fits to = (names, (refl, fits.0))
+names_of table n (op.Mkdir (Bad fault raw) mode) served fits to = absurd (fits.0)
+names_of table n (op.Create (Good names) mode) served fits to = (names, (refl, fits.0))
+names_of table n (op.Create (Bad fault raw) mode) served fits to = absurd (fits.0)
+names_of table n (op.Stat (Good names)) served fits to = (names, (refl, fits))
+names_of table n (op.Stat (Bad fault raw)) served fits to = absurd fits
+names_of table n (op.Access (Good names) want) served fits to = (names, (refl, fits.0))
+names_of table n (op.Access (Bad fault raw) want) served fits to = absurd (fits.0)
+names_of table n (op.Chmod (Good names) mode) served fits to = (names, (refl, fits.0))
+names_of table n (op.Chmod (Bad fault raw) mode) served fits to = absurd (fits.0)
+names_of table n (op.Chown (Good names) uid gid) served fits to = (names, (refl, fits.0))
+names_of table n (op.Chown (Bad fault raw) uid gid) served fits to = absurd (fits.0)
+names_of table n (op.Truncate (Good names) size) served fits to = (names, (refl, fits.0))
+names_of table n (op.Truncate (Bad fault raw) size) served fits to = absurd (fits.0)
+names_of table n (op.Unlink (Good names)) served fits to = (names, (refl, fits))
+names_of table n (op.Unlink (Bad fault raw)) served fits to = absurd fits
+names_of table n (op.Rmdir path) served fits to = absurd (cc)
+names_of table n (op.Rename old new) served fits to = absurd (cc)
+names_of table n (op.List path) served fits to = absurd (cc)
+names_of table n (op.Place name rule) served fits to = absurd (cc)
 
 -- ---- fates that do not come
 
@@ -90,22 +99,30 @@ goes_by s tree call names (Joins denied parent last keys) blocked shut stays is 
 
 -- ---- the calls that wait at a node
 
-module _ (config : Config) (w : World) (n : ℕ) (h : Ghost) (there : n < config.nodes) (s : Shows config w h) where
+module _ (config : Config) (w : World) (n : ℕ) (h : Ghost) (there : n < config.nodes) (other : n ≢ 255) (s : Shows config w h) where
   abbrev setting : Setting
   setting = setting_at (w.nodes n)
 
   abbrev tree : Tree
   tree = tree_now w.commits
 
+  -- the call goes to this node
+  sent_to : (c : WaitingCall) → WaitsAt h.call h.phase n c → addressee (table_of config) (h.call (lane_of c)).op ≡ Node n
+  sent_to c at = s.good.lanes.routed (lane_of c) n there (subst (IsFor n) (sym at.0) refl)
+
+  -- each directory of the replica is the tree's
+  dirs_at : AreDirs tree (w.nodes n).replica
+  dirs_at = subst (AreDirs tree) (at_seat (λ m. (w.nodes m).replica) w.coord.replica n other) (s.good.ground.replicas n)
+
   names_at : (c : WaitingCall) → WaitsAt h.call h.phase n c → HasNames c.call.op
   names_at c at =
       let l = lane_of c in
       let busy : h.phase l ≢ Idle = λ e. let wrong : Idle ≡ phase.Waits n c.fetch = sym e ∙ at.0 in absurd (cc) in
-      subst (λ (k : CallRec). HasNames k.op) (sym at.1) (names_of (h.call l).op (s.good.lanes.under_way.served l busy) (s.good.lanes.under_way.fits l busy))
+      subst (λ (k : CallRec). HasNames k.op) (sym at.1) (names_of (table_of config) n (h.call l).op (s.good.lanes.under_way.served l busy) (s.good.lanes.under_way.fits l busy) (sent_to c at))
 
   -- each waiting call has a fate by the tree
   pub fate_now : (c : WaitingCall) → WaitsAt h.call h.phase n c → IsFate setting tree c.call (fate setting c.call)
-  fate_now c at = let names = names_at c at in fate_is setting tree c.call names.0 (s.good.ground.replicas n) names.1.0 names.1.1
+  fate_now c at = let names = names_at c at in fate_is setting tree c.call names.0 dirs_at names.1.0 names.1.1
 
   fate_named : (c : WaitingCall) (at : WaitsAt h.call h.phase n c) → IsFateOf setting tree c.call (Some (names_at c at).0) (fate setting c.call)
   fate_named c at = subst (λ o. IsFateOf setting tree c.call o (fate setting c.call)) (names_at c at).1.0 (fate_now c at)
@@ -115,23 +132,22 @@ module _ (config : Config) (w : World) (n : ℕ) (h : Ghost) (there : n < config
   stays_now c at =
       let names = names_at c at in
       let by = λ (last : Option (List ℕ)). ap (λ t. goes_by_parent t last) (s.placed n).table ∙ never_by_parent config.nodes last in
-      let sent = s.good.lanes.routed (lane_of c) n there (subst (IsFor n) (sym at.0) refl) in
-      let to : addressee (table_of config) c.call.op ≡ Node n = ap (λ (k : CallRec). addressee (table_of config) k.op) at.1 ∙ sent in
+      let to : addressee (table_of config) c.call.op ≡ Node n = ap (λ (k : CallRec). addressee (table_of config) k.op) at.1 ∙ sent_to c at in
       let route_is = sent_here (table_of config) c.call.op names.0 n (named_op c.call.op names.0 names.1.0) to in
       let here : route setting.table names.0 ≡ setting.me = ap (λ t. route t names.0) (s.placed n).table ∙ route_is ∙ sym (s.placed n).number in
       stays_by setting tree c.call names.0 (fate setting c.call) by here (fate_named c at)
 
-  -- since nothing is blocked or shut, none is skipped
-  goes_now : (c : WaitingCall) → WaitsAt h.call h.phase n c → GoesOn (fate setting c.call)
-  goes_now c at =
+  -- since nothing is blocked, none is skipped where nothing is shut
+  goes_now : (w.nodes n).locks.shut ≡ None → (c : WaitingCall) → WaitsAt h.call h.phase n c → GoesOn (fate setting c.call)
+  goes_now none c at =
       let blocked : setting.blocked ≡ Nothing = ap (λ b. blocked_names b) (s.placed n).blocked in
-      let shut : setting.shut ≡ [] = ap (λ o. shut_keys_of o) (s.good.operation.stands n there).1 in
+      let shut : setting.shut ≡ [] = ap (λ o. shut_keys_of o) none in
       goes_by setting tree c.call (names_at c at).0 (fate setting c.call) blocked shut (stays_now c at) (fate_named c at)
 
   -- none of the calls that wait leaves
   pub fates_stay : Each (λ x. x.fetch ≡ None → Stays (fate setting x.call)) (w.nodes n).waiting.calls
   fates_stay = each_weaker (WaitsAt h.call h.phase n) _ (w.nodes n).waiting.calls (λ x at _. stays_now x at) (s.held n).waiters
 
-  -- each waiting call is one that goes on
-  pub fates_go : Each (λ x. GoesOn (fate setting x.call)) (w.nodes n).waiting.calls
-  fates_go = each_weaker (WaitsAt h.call h.phase n) _ (w.nodes n).waiting.calls (λ x at. goes_now x at) (s.held n).waiters
+  -- each waiting call is one that goes on, where nothing is shut
+  pub fates_go : (w.nodes n).locks.shut ≡ None → Each (λ x. GoesOn (fate setting x.call)) (w.nodes n).waiting.calls
+  fates_go none = each_weaker (WaitsAt h.call h.phase n) _ (w.nodes n).waiting.calls (λ x at. goes_now none x at) (s.held n).waiters

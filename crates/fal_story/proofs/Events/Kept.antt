@@ -7,19 +7,26 @@ use Rattle.fal_client.specs.declared.event.ClientEvent.{ClientEvent}
 use Rattle.fal_client.specs.declared.event.ClientEvent.TheVariants as client
 use Rattle.fal_client.specs.State.{Work as ClientWork}
 use Rattle.fal_client.specs.Step.{client_step}
+use Rattle.fal_coord.specs.declared.event.CoordEvent.{CoordEvent}
+use Rattle.fal_coord.specs.declared.event.CoordEvent.TheVariants as coord
+use Rattle.fal_coord.specs.State.{Work as CoordWork}
+use Rattle.fal_coord.specs.Step.{coord_step}
 use Rattle.fal_node.specs.declared.event.NodeEvent.{NodeEvent}
 use Rattle.fal_node.specs.declared.event.NodeEvent.TheVariants as node
 use Rattle.fal_node.specs.Letters.{Work}
 use Rattle.fal_node.specs.Step.{node_step}
 use Rattle.fal_wire.specs.Messages.{Fits}
+use Rattle.fal_story.proofs.Coordinator.HearEvent.{hear_event}
+use Rattle.fal_story.proofs.Coordinator.StartEvent.{start_event}
 use Rattle.fal_story.proofs.Events.ClientEvent.{EndsClient, send_event, get_event}
 use Rattle.fal_story.proofs.Events.DeliverEvent.{deliver_event}
 use Rattle.fal_story.proofs.Events.ExecEvent.{exec_event}
 use Rattle.fal_story.proofs.Events.GatherEvent.{gather_event}
+use Rattle.fal_story.proofs.Events.InCoord.{EndsCoord}
 use Rattle.fal_story.proofs.Events.InStep.{Ends}
 use Rattle.fal_story.proofs.Events.ServeEvent.{serve_event, release_event}
 use Rattle.fal_story.proofs.Events.Shows.{Ghost, Shows}
-use Rattle.fal_story.proofs.Ranges.Bounds.{Comes, ComesToClient}
+use Rattle.fal_story.proofs.Ranges.Bounds.{Comes, ComesToClient, ComesToCoord}
 use Rattle.fal_story.specs.Clusters.{IsCluster, is_lane}
 use Rattle.fal_story.specs.World.{World}
 
@@ -35,3 +42,7 @@ pub client_event : (config : Config) (w : World) (l : ℕ) (h : Ghost) (e : Clie
     → client_step (w.clients l) e ≡ Some m → All (λ s. Fits s.message) m.sent → EndsClient config w l m
 client_event config w l h client.Send m cluster there shows comes is fit = send_event config w l h m cluster there shows is fit
 client_event config w l h (client.Get x) m cluster there shows comes is fit = get_event config w l comes.0 x h m cluster shows comes.1 is fit
+
+pub coord_event : (config : Config) (w : World) (h : Ghost) (e : CoordEvent) (k : CoordWork) → IsCluster config → Shows config w h → ComesToCoord w e → coord_step w.coord e ≡ Some k → All (λ letter. Fits letter.message) k.sent → EndsCoord config w k
+coord_event config w h (coord.Hear x) k cluster shows comes is fit = hear_event config w h comes.0 x k cluster shows comes.1 is fit
+coord_event config w h coord.Start k cluster shows comes is fit = start_event config w h k cluster shows is fit

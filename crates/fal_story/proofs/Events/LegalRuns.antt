@@ -4,24 +4,31 @@ use Rattle.std.specs.Prelude.{slice_get}
 use Rattle.std.proofs.lemmas.Bool.Decides.{nat_tests}
 use Rattle.std.proofs.lemmas.Option.{same_Some}
 use Rattle.fal_base.specs.declared.call.Config.{Config}
+use Rattle.fal_base.specs.declared.event.Actor.TheVariants.{Coord}
 use Rattle.fal_base.specs.declared.event.Event.{Event}
 use Rattle.fal_base.specs.declared.event.Event.TheVariants as event
 use Rattle.fal_client.specs.declared.event.ClientEvent.{ClientEvent}
 use Rattle.fal_client.specs.declared.event.ClientEvent.TheVariants as client
 use Rattle.fal_client.specs.State.{Work as ClientWork}
 use Rattle.fal_client.specs.Step.{client_step}
+use Rattle.fal_coord.specs.declared.event.CoordEvent.{CoordEvent}
+use Rattle.fal_coord.specs.declared.event.CoordEvent.TheVariants as coord
+use Rattle.fal_coord.specs.State.{Work as CoordWork}
+use Rattle.fal_coord.specs.Step.{coord_step}
 use Rattle.fal_node.specs.declared.event.NodeEvent.{NodeEvent}
 use Rattle.fal_node.specs.declared.event.NodeEvent.TheVariants as node
 use Rattle.fal_node.specs.Letters.{Work}
 use Rattle.fal_node.specs.Step.{node_step}
-use Rattle.fal_story.proofs.Events.Kept.{node_event, client_event}
-use Rattle.fal_story.proofs.Histories.Deeds.{deed_does, no_hear}
+use Rattle.fal_story.proofs.Events.Kept.{node_event, client_event, coord_event}
+use Rattle.fal_story.proofs.Histories.Deeds.{deed_does}
 use Rattle.fal_story.proofs.Events.Opening.{opening_ghost, opening_shows, opening_ranged}
 use Rattle.fal_story.proofs.Events.Shows.{Ghost, Shows}
-use Rattle.fal_story.proofs.Ranges.Bounds.{Comes, ComesToClient, IsRanged}
+use Rattle.fal_story.proofs.Ranges.Bounds.{Comes, ComesToClient, ComesToCoord, IsRanged}
+use Rattle.fal_story.proofs.Ranges.CoordInRange.{coord_in_range}
 use Rattle.fal_story.proofs.Ranges.InRange.{node_in_range, client_in_range}
 use Rattle.fal_story.specs.Clusters.{IsCluster, is_lane, is_node}
-use Rattle.fal_story.specs.Run.{Deed, only_where, client_hears, node_hears, client_deed, node_deed, deed, done, step, run_from, run, IsLegal}
+use Rattle.fal_story.specs.Machines.{coord_hears, coord_made}
+use Rattle.fal_story.specs.Run.{Deed, only_where, client_hears, node_hears, client_deed, node_deed, deed, deed_by, done, step, run_from, run, IsLegal}
 use Rattle.fal_story.specs.World.{World, opening_world, posted}
 
 -- what holds of the world after a legal run
@@ -57,6 +64,14 @@ node_kept config w u n e (Some work) cluster few k comes is at =
       | false ↦ λ there z. absurd (cc)
     ] refl at
 
+coord_kept : (config : Config) (w u : World) (e : CoordEvent) (o : Option CoordWork) → IsCluster config → w.events < 2 ^ 63 → IsKept config w → ComesToCoord w e → o ≡ coord_step w.coord e
+    → done config (deed_by w Coord (coord_made o)) ≡ Some u → IsKept config u
+coord_kept config w u e None cluster few k comes is at = absurd (cc)
+coord_kept config w u e (Some work) cluster few k comes is at =
+    let r = coord_in_range config w k.ghost e work cluster few k.shows k.ranged comes (sym is) in
+    let s = coord_event config w k.ghost e work cluster k.shows comes (sym is) (r.0.records) in
+    subst (IsKept config) (same_Some _ u at) (record { ghost = s.0; shows = s.1; ranged = r.1 })
+
 -- what nobody makes of an event
 nothing_client : (config : Config) (w u : World) (l : ℕ) → done config (client_deed w l (only_where (is_lane config l) None)) ≡ Some u → ⊥
 nothing_client config w u l = elim (is_lane config l) as (λ b. done config (client_deed w l (only_where b None)) ≡ Some u → ⊥) [ true ↦ λ z. cc | false ↦ λ z. cc ]
@@ -82,8 +97,12 @@ step_kept config w u (event.Gather n) cluster few k at = node_kept config w u n 
 step_kept config w u (event.Exec n number) cluster few k at = node_kept config w u n (node.Exec number) _ cluster few k tt refl at
 step_kept config w u (event.Release n number) cluster few k at = node_kept config w u n (node.Release number) _ cluster few k tt refl at
 step_kept config w u (event.Serve n number) cluster few k at = node_kept config w u n (node.Serve number) _ cluster few k tt refl at
-step_kept config w u (event.Hear number) cluster few k at = absurd (no_hear config w u number at)
-step_kept config w u event.Start cluster few k at = absurd (cc)
+step_kept config w u (event.Hear number) cluster few k at =
+    elim (slice_get w.envelopes number) as (λ o. slice_get w.envelopes number ≡ o → done config (deed_by w Coord (coord_made (coord_hears w.coord o))) ≡ Some u → IsKept config u) [
+      | None ↦ λ t z. absurd (cc)
+      | Some x ↦ λ t z. coord_kept config w u (coord.Hear x) _ cluster few k (number, t) refl z
+    ] refl at
+step_kept config w u event.Start cluster few k at = coord_kept config w u coord.Start _ cluster few k tt refl at
 
 -- each event is counted
 posted_counts : (config : Config) (w u : World) (o : Option Deed) → ((d : Deed) → o ≡ Some d → d.world.events ≡ w.events) → done config o ≡ Some u → u.events ≡ suc w.events

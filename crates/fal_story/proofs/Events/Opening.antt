@@ -1,5 +1,5 @@
 -- What a cluster shows before its first event.
-use Rattle.std.proofs.Common.{◌≡◌, ◌≢◌, ◌⊎◌, ⊎_elim, inl, inr, ℕ, suc, ◌+◌, Bool, true, false, List, [], Some, None, Option, refl, sym, ap, ◌∙◌, subst, arith}
+use Rattle.std.proofs.Common.{◌≡◌, ◌≢◌, ◌⊎◌, ⊎_elim, inl, inr, ℕ, suc, ◌+◌, ◌≤◌, Bool, true, false, List, [], length, Some, None, Option, refl, sym, ap, ◌∙◌, subst, arith}
 use Rattle.std.specs.Prelude.{slice_get, unwrap_or, ◌==◌, if◌then◌else◌}
 use Rattle.std.proofs.lemmas.Option.{same_Some}
 use Rattle.fal_base.specs.declared.call.Call.{Call}
@@ -11,8 +11,10 @@ use Rattle.fal_base.specs.declared.key.Key.{Key}
 use Rattle.fal_base.specs.declared.op.Op.TheVariants as op
 use Rattle.fal_base.specs.declared.path.PathArg.TheVariants.{Good as GoodPath}
 use Rattle.fal_base.specs.Transcript.{call_of, lane_call, numbered}
-use Rattle.fal_base.specs.Tree.{tree0, root_key, row_at}
+use Rattle.fal_base.specs.Tree.{tree0, root_key, row_at, IsInOrder}
 use Rattle.fal_base.proofs.Maps.{put_cases}
+use Rattle.fal_base.proofs.Order.{in_order_with}
+use Rattle.fal_coord.specs.State.{opening_coord}
 use Rattle.fal_node.specs.State.{opening_node, opening_rows}
 use Rattle.fal_place.specs.Placement.{Placement, owner}
 use Rattle.fal_wire.specs.Numbers.{ino_field, mode_field, size_field}
@@ -20,9 +22,12 @@ use Rattle.fal_wire.specs.Rows.{kind_field, inode_field}
 use Rattle.fal_story.proofs.Events.Shows.{Ghost, Shows, IsPlaced, view_of}
 use Rattle.fal_story.proofs.Drain.Actors.{owner_there}
 use Rattle.fal_story.proofs.Good.{Good}
-use Rattle.fal_story.proofs.Lists.Grown.{tells, unequal}
+use Rattle.fal_story.proofs.Lists.Grown.{tells, unequal, put_back}
+use Rattle.fal_story.proofs.View.{View}
 use Rattle.fal_story.proofs.Phase.{Idle}
 use Rattle.fal_story.proofs.Ranges.Bounds.{IsRanged, IsNodeRanged, IsNodeCounted}
+use Rattle.fal_story.proofs.Ranges.CoordBounds.{IsCoordRanged}
+use Rattle.fal_story.proofs.Ranges.RowCounts.{with_most}
 use Rattle.fal_story.proofs.Ranges.RowRanges.{AreRowsRanged}
 use Rattle.fal_story.proofs.Trees.Standing.{row_of, table_of}
 use Rattle.fal_story.specs.Clusters.{IsCluster, calls_of_lane}
@@ -69,7 +74,7 @@ abbrev no_call : CallRec
 no_call = record { id = record { client = 0; seq = 0; attempt = 0; hop = 0 }; cred = record { uid = 0; gid = 0 }; version = 0; op = op.Stat (GoodPath []) }
 
 abbrev pub opening_ghost : Ghost
-opening_ghost = record { call = λ _. no_call; since = λ _. 0; phase = λ _. Idle; crossed = λ _. [] }
+opening_ghost = record { call = λ _. no_call; since = λ _. 0; phase = λ _. Idle; crossed = λ _. []; queued = λ _. None; due = λ _. []; starts = [] }
 
 lane_at_start : (lane : Option (List Call)) (k : ℕ) → slice_get (unwrap_or lane []) k ≡ lane_call lane (suc k)
 lane_at_start None k = refl
@@ -78,9 +83,23 @@ lane_at_start (Some calls) k = refl
 left_at_start : (config : Config) (l k : ℕ) → slice_get (calls_of_lane config l) k ≡ call_of config l (0 + 1 + k)
 left_at_start config l k = let next : suc k ≡ 0 + 1 + k = omega arith in lane_at_start (numbered config.lanes l) k ∙ ap (lane_call (numbered config.lanes l)) next
 
-good_at_start : (config : Config) → IsCluster config → Good config (view_of config (opening_world config) opening_ghost)
-unfolding opening_node
-good_at_start config cluster = record {
+-- the first view, with the coordinator like any other
+abbrev first_view : Config → View
+first_view config = record (view_of config (opening_world config) opening_ghost) { replica = λ _. []; fetches = λ _. []; opened = λ _. 0; taken = λ _. [] }
+
+-- the coordinator's seat has what all have
+view_at_start : (config : Config) → first_view config ≡ view_of config (opening_world config) opening_ghost
+unfolding opening_node opening_coord
+view_at_start config = λ i. record (first_view config) {
+  replica = sym (put_back (λ _. []) 255) i;
+  fetches = sym (put_back (λ _. []) 255) i;
+  opened = sym (put_back (λ _. 0) 255) i;
+  taken = sym (put_back (λ _. []) 255) i;
+}
+
+good_at_first : (config : Config) → IsCluster config → Good config (first_view config)
+unfolding opening_node opening_coord
+good_at_first config cluster = record {
   ground = record {
     lives = λ key. owner_there config key cluster;
     rows = λ n key. rows_at_start (table_of config) n key;
@@ -143,6 +162,9 @@ good_at_start config cluster = record {
   };
 }
 
+good_at_start : (config : Config) → IsCluster config → Good config (view_of config (opening_world config) opening_ghost)
+good_at_start config cluster = subst (Good config) (view_at_start config) (good_at_first config cluster)
+
 placed_at_start : (config : Config) (n : ℕ) → IsPlaced config n (opening_node n config.nodes config.batch)
 unfolding opening_node
 placed_at_start config n = record {
@@ -154,13 +176,18 @@ placed_at_start config n = record {
 }
 
 pub opening_shows : (config : Config) → IsCluster config → Shows config (opening_world config) opening_ghost
-unfolding opening_node
+unfolding opening_node opening_coord
 opening_shows config cluster = record {
   good = good_at_start config cluster;
   held = λ n. record { waiters = tt; planned = tt; waiters_apart = tt; planned_apart = tt };
   items = λ n. tt;
   heard = λ l. record { lane = refl; nodes = refl; table = refl; left = λ k. left_at_start config l k; none = λ is. refl; some = λ current is. absurd (cc) };
   placed = λ n. placed_at_start config n;
+  beside = record {
+    queues = λ n. refl;
+    holding = λ n. record { below = tt; planned = λ l p plans. absurd (cc) };
+    hosts = record { table = refl; waiters = tt; apart = tt; current = tt };
+  };
 }
 
 root_fits : inode_field.Fits root
@@ -178,15 +205,28 @@ node_ranged_at_start : (n nodes limit : ℕ) → IsNodeRanged (opening_node n no
 unfolding opening_node
 node_ranged_at_start n nodes limit = record {
   rows = elim (n == 0) as (λ b. AreRowsRanged (if b then tree0 else [])) [ true ↦ tree0_ranged | false ↦ λ key inode is. absurd (cc) ];
+  sorted = elim (n == 0) as (λ b. IsInOrder (if b then tree0 else [])) [ true ↦ in_order_with [] root_key root refl | false ↦ refl ];
   replica = λ key dentry is. absurd (cc);
   waiting = tt;
   items = tt;
   batches = tt;
 }
 
+few_rows_at_start : (n : ℕ) → length (opening_rows n) ≤ 1
+few_rows_at_start n = elim (n == 0) as (λ b. length (if b then tree0 else []) ≤ 1) [ true ↦ with_most [] root_key root refl | false ↦ omega arith ]
+
 node_counted_at_start : (n nodes limit : ℕ) → IsNodeCounted 0 (opening_node n nodes limit)
 unfolding opening_node
-node_counted_at_start n nodes limit = record { tickets = omega arith; items = omega arith; batches = omega arith; operation = omega arith; fetches = omega arith }
+node_counted_at_start n nodes limit = let few = few_rows_at_start n in record { tickets = omega arith; items = omega arith; batches = omega arith; fetches = omega arith; rows = omega arith }
+
+coord_ranged_at_start : (nodes : ℕ) → IsCoordRanged 0 (opening_coord nodes)
+unfolding opening_coord
+coord_ranged_at_start nodes = record { waiting = tt; replica = λ key dentry is. absurd (cc); stage = tt; asked = omega arith }
 
 pub opening_ranged : (config : Config) → IsRanged (opening_world config)
-opening_ranged config = record { nodes = λ n. node_ranged_at_start n config.nodes config.batch; counted = λ n. node_counted_at_start n config.nodes config.batch; envelopes = tt }
+opening_ranged config = record {
+  nodes = λ n. node_ranged_at_start n config.nodes config.batch;
+  counted = λ n. node_counted_at_start n config.nodes config.batch;
+  coord = coord_ranged_at_start config.nodes;
+  envelopes = tt;
+}

@@ -44,7 +44,7 @@ sends config w n k h ws ps letter fine s =
         ≡ view_in config w n (record k { sent = k.sent ++ letter ∷ [] }) h
     same = λ i. record (view_in config w n k h) { posts = posts_push (length w.commits) (posts_of w.envelopes) k.sent letter i }
 
-same_item : {A : Type 0} (a b : A) → Some a ≡ Some b → a ≡ b
+pub same_item : {A : Type 0} (a b : A) → Some a ≡ Some b → a ≡ b
 same_item a b e = cc
 
 -- what holds of each item holds of the one that was found

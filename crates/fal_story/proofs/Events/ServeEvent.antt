@@ -1,21 +1,31 @@
 -- An item is served, and a batch is released.
-use Rattle.std.proofs.Common.{◌≡◌, ⊎_elim, ℕ, ◌+◌, ◌<◌, Bool, true, false, cond, List, [], ◌∷◌, ◌++◌, length, Option, Some, None, refl, sym, ap, subst, ◌∙◌, arith}
+use Rattle.std.proofs.Common.{◌≡◌, ◌≢◌, inl, ⊎_elim, ℕ, ◌+◌, ◌<◌, Bool, true, false, not, ◌&&◌, ◌||◌, cond, List, [], ◌∷◌, ◌++◌, length, filter, Option, Some, None, refl, sym, ap, subst, ◌∙◌, arith}
 use Rattle.std.specs.Prelude.{◌==◌}
-use Rattle.std.specs.List.{All, find}
-use Rattle.std.proofs.lemmas.Bool.{eq-eqb}
+use Rattle.std.specs.List.{All, find, list_any}
+use mathlib.Core.Path.{fun_ext}
+use Rattle.std.proofs.lemmas.Bool.{eq-eqb, eqb-true}
+use Rattle.std.proofs.lemmas.Map.Views.{any-filter_same}
+use Rattle.std.proofs.lemmas.Option.{same_Some}
 use Rattle.fal_base.specs.declared.call.Config.{Config}
 use Rattle.fal_base.specs.declared.event.Actor.TheVariants.{Node, Coord}
 use Rattle.fal_base.specs.declared.event.Point.TheVariants.{Here}
 use Rattle.fal_base.specs.declared.key.Key.{Key}
 use Rattle.fal_base.specs.Tree.{row_at}
+use Rattle.fal_batch.proofs.KeyLists.{same_turned}
+use Rattle.fal_batch.proofs.Truth.{both_first, both_second}
+use Rattle.fal_batch.specs.Fate.{bars}
 use Rattle.fal_duty.specs.Duties.{found_of}
+use Rattle.fal_locks.specs.declared.holder.Holder.{Holder}
+use Rattle.fal_locks.specs.declared.holder.Shut.{Shut}
+use Rattle.fal_locks.specs.Keys.{has_key}
+use Rattle.fal_locks.specs.Locks.{is_shut, shut_keys_of}
 use Rattle.fal_node.specs.declared.batch.Batch.{Batch}
 use Rattle.fal_node.specs.declared.event.NodeEvent.TheVariants.{Release, Serve}
 use Rattle.fal_node.specs.declared.item.Item.{Item}
 use Rattle.fal_wire.specs.declared.letter.Letter.{Letter}
 use Rattle.fal_node.specs.Letters.{Work, begun, asker_of}
-use Rattle.fal_node.specs.Serve.{can_serve, served, serve, fetch_letter}
-use Rattle.fal_node.specs.State.{NodeState, batch_of, item_of, without_item, released}
+use Rattle.fal_node.specs.Serve.{can_serve, can_shut, can_tell, owns, served, served_as, serve, service_of, fetch_letter, lock_service}
+use Rattle.fal_node.specs.State.{NodeState, batch_of, blocked_names, item_of, without_item, released}
 use Rattle.fal_node.specs.Step.{node_step, release, only_if}
 use Rattle.fal_place.specs.Placement.{owner}
 use Rattle.fal_wait.specs.Lists.{without_first}
@@ -23,24 +33,24 @@ use Rattle.fal_wire.specs.declared.message.Message.{Message}
 use Rattle.fal_wire.specs.declared.message.Message.TheVariants as message
 use Rattle.fal_wire.specs.Messages.{Fits}
 use Rattle.fal_wire.specs.Letters.{letter}
+use Rattle.fal_story.proofs.Events.Besides.{beside_still, beside_stepped}
+use Rattle.fal_story.proofs.Events.Freed.{locks_without}
 use Rattle.fal_story.proofs.Events.InStep.{view_in, InStep, Ends, begins, ends, view_begun}
 use Rattle.fal_story.proofs.Events.Sends.{sends, each_found, each_without_first}
-use Rattle.fal_story.proofs.Events.Shows.{Ghost, Shows, Held, view_of, posts_of, calls_in, pending_calls}
-use Rattle.fal_story.proofs.Lists.Grown.{tells}
+use Rattle.fal_story.proofs.Events.ServeLock.{lock_served}
+use Rattle.fal_story.proofs.Events.Shows.{Ghost, Shows, Beside, Held, Holds, is_lock, view_of, posts_of, calls_in, pending_calls}
+use Rattle.fal_story.proofs.Lists.Grown.{tells, unequal}
+use Rattle.fal_story.proofs.Lists.Members.{find_in, find_other}
+use Rattle.fal_story.proofs.Phase.{Phase}
 use Rattle.fal_story.proofs.Steps.Posted.{IsFine}
 use Rattle.fal_story.proofs.Trees.Standing.{table_of}
 use Rattle.fal_story.proofs.View.{IsPosted, seat}
 use Rattle.fal_story.proofs.Families.Clear.{IsShut}
 use Rattle.fal_story.proofs.Steps.Reads.{read_row}
 use Rattle.fal_story.specs.Clusters.{IsCluster}
-use Rattle.fal_story.specs.World.{World}
+use Rattle.fal_story.specs.World.{World, put}
 
 -- ---- what a served item is
-
--- an item that can be served asks for a directory
-asks_fetch : (node : NodeState) (m : Message) → can_serve node m ≡ true → (asker : ℕ) × ((number : ℕ) × ((key : Key) × (m ≡ message.FetchAsk asker number key)))
-asks_fetch node (message.FetchAsk asker number key) can = (asker, (number, (key, refl)))
-asks_fetch node other can = absurd (cc)
 
 -- the item that was served
 pub record IsServed (node : NodeState) (number : ℕ) (k : Work) : Type 0 where
@@ -70,12 +80,12 @@ abbrev pub got : ℕ → ℕ → Key → NodeState → Letter
 got asker number key node = letter (asker_of asker) (Here 0) (message.FetchGot number key (found_of (row_at node.rows key)))
 
 -- it goes to the asker, who may be the coordinator
-fetch_letter_is : (node : NodeState) (asker number : ℕ) (key : Key) → owner node.table key ≡ node.number → fetch_letter node asker number key ≡ got asker number key node
+pub fetch_letter_is : (node : NodeState) (asker number : ℕ) (key : Key) → owner node.table key ≡ node.number → fetch_letter node asker number key ≡ got asker number key node
 fetch_letter_is node asker number key owned =
     ap (λ b. cond b (letter (asker_of asker) (Here 0) (message.FetchGot number key (found_of (row_at node.rows key)))) (letter (Node (owner node.table key)) (Here 0) (message.FetchAsk asker number key))) (eq-eqb (owner node.table key) node.number owned)
 
 -- the coordinator's number is its seat
-asker_seat : (asker : ℕ) → seat (asker_of asker) ≡ Node asker
+pub asker_seat : (asker : ℕ) → seat (asker_of asker) ≡ Node asker
 asker_seat asker = ⊎_elim
     (λ own. ap (λ b. seat (cond b Coord (Node asker))) own.0 ∙ ap Node (sym own.1))
     (λ other. ap (λ b. seat (cond b Coord (Node asker))) other.0)
@@ -84,12 +94,29 @@ asker_seat asker = ⊎_elim
 same_node : (a b : ℕ) → Node a ≡ Node b → a ≡ b
 same_node a b e = cc
 
+-- the key lives here
+owns_key : (config : Config) (w : World) (n : ℕ) (h : Ghost) (e p asker number : ℕ) (key : Key) → Shows config w h → IsPosted (posts_of w.envelopes) e (Node n) p (message.FetchAsk asker number key)
+    → owner (w.nodes n).table key ≡ (w.nodes n).number
+owns_key config w n h e p asker number key s sent =
+    ap (λ t. owner t key) (s.placed n).table ∙ sym (same_node n (owner (table_of config) key) (s.good.asking.owners e p asker number (Node n) key sent)) ∙ sym (s.placed n).number
+
+-- and is not shut
+open_key : (node : NodeState) (key : Key) → owner node.table key ≡ node.number → can_tell node key ≡ true → IsShut node.locks.shut key → ⊥
+open_key node key owned can is =
+    let second = both_second (not (bars (blocked_names node.blocked) key.name)) (not (owns node key) || not (is_shut node.locks key)) can in
+    let open' : not (is_shut node.locks key) ≡ true = sym (ap (λ b. not b || not (is_shut node.locks key)) (eq-eqb (owner node.table key) node.number owned)) ∙ second in
+    off node.locks.shut open' is
+  where
+    off : (shut : Option Shut) → not (has_key (shut_keys_of shut) key) ≡ true → IsShut shut key → ⊥
+    off None free among = among
+    off (Some s) free among = let here : has_key s.keys key ≡ true = ap (λ test. list_any test s.keys) (fun_ext (λ other. same_turned key other)) ∙ among in cc
+
 fine_served : (config : Config) (w : World) (n : ℕ) (h : Ghost) (e p asker number : ℕ) (key : Key) → n < config.nodes → Shows config w h → IsPosted (posts_of w.envelopes) e (Node n) p (message.FetchAsk asker number key)
-    → IsFine config (view_of config w h) (Node asker) (length w.commits + 0) (message.FetchGot number key (found_of (row_at (w.nodes n).rows key)))
-fine_served config w n h e p asker number key there s sent =
+    → can_tell (w.nodes n) key ≡ true → IsFine config (view_of config w h) (Node asker) (length w.commits + 0) (message.FetchGot number key (found_of (row_at (w.nodes n).rows key)))
+fine_served config w n h e p asker number key there s sent can =
     let g = s.good in
     let owned = same_node n (owner (table_of config) key) (g.asking.owners e p asker number (Node n) key sent) in
-    let off = λ (is : IsShut (w.nodes n).locks.shut key). subst (λ shut. IsShut shut key) (g.operation.stands n there).1 is in
+    let off = open_key (w.nodes n) key (owns_key config w n h e p asker number key s sent) can in
     record {
       asking = (
         asker,
@@ -105,20 +132,17 @@ fine_served config w n h e p asker number key there s sent =
 
 -- ---- the step
 
-served_in : (config : Config) (w : World) (n : ℕ) (h : Ghost) (e p at asker number : ℕ) (key : Key) → n < config.nodes → Shows config w h
-    → IsPosted (posts_of w.envelopes) e (Node n) p (message.FetchAsk asker number key)
+served_in : (config : Config) (w : World) (n : ℕ) (h : Ghost) (e p at asker number : ℕ) (key : Key) → n < config.nodes → n ≢ 255 → Shows config w h
+    → IsPosted (posts_of w.envelopes) e (Node n) p (message.FetchAsk asker number key) → can_tell (w.nodes n) key ≡ true
     → InStep config w n (served (w.nodes n) (record { number = at; message = message.FetchAsk asker number key })) h (w.nodes n).waiting.calls (calls_in (w.nodes n).batches)
 unfolding served without_item
-served_in config w n h e p at asker number key there s sent =
+served_in config w n h e p at asker number key there other s sent can =
     let node = w.nodes n in
-    let placed = s.placed n in
-    let owned : owner node.table key ≡ node.number =
-    ap (λ t. owner t key) placed.table ∙ sym (same_node n (owner (table_of config) key) (s.good.asking.owners e p asker number (Node n) key sent)) ∙ sym placed.number in
-    let is = fetch_letter_is node asker number key owned in
+    let is = fetch_letter_is node asker number key (owns_key config w n h e p asker number key s sent) in
     let x = sends config w n (begun node) h node.waiting.calls (calls_in node.batches) (got asker number key node)
     (subst (λ to. IsFine config (view_in config w n (begun node) h) to (length w.commits + 0) (message.FetchGot number key (found_of (row_at node.rows key)))) (sym (asker_seat asker))
-    (subst (λ v. IsFine config v (Node asker) (length w.commits + 0) (message.FetchGot number key (found_of (row_at node.rows key)))) (view_begun config w n h) (fine_served config w n h e p asker number key there s sent)))
-    (begins config w n h s) in
+    (subst (λ v. IsFine config v (Node asker) (length w.commits + 0) (message.FetchGot number key (found_of (row_at node.rows key)))) (view_begun config w n h other) (fine_served config w n h e p asker number key there s sent can)))
+    (begins config w n h other s) in
     let y : InStep config w n (record (begun node) { sent = fetch_letter node asker number key ∷ [] }) h node.waiting.calls (calls_in node.batches) =
     subst (λ (l : Letter). InStep config w n (record (begun node) { sent = l ∷ [] }) h node.waiting.calls (calls_in node.batches)) (sym is) x in
     record {
@@ -132,26 +156,57 @@ served_in config w n h e p at asker number key there s sent =
       others_placed = y.others_placed;
     }
 
-served_ends : (config : Config) (w : World) (n number : ℕ) (h : Ghost) (item : Item) → n < config.nodes → Shows config w h → item_of (w.nodes n) number ≡ Some item → can_serve (w.nodes n) item.message ≡ true
-    → All (λ letter. Fits letter.message) (served (w.nodes n) item).sent → Ends config w n (served (w.nodes n) item)
+told_ends : (config : Config) (w : World) (n : ℕ) (h : Ghost) (item : Item) (asker number : ℕ) (key : Key) → n < config.nodes → n ≢ 255 → Shows config w h → item_of (w.nodes n) item.number ≡ Some item
+    → item.message ≡ message.FetchAsk asker number key → can_tell (w.nodes n) key ≡ true → All (λ letter. Fits letter.message) (served (w.nodes n) item).sent → Ends config w n (served (w.nodes n) item)
 unfolding served without_item
-served_ends config w n number h item below s there can fit =
-    let sent = each_found _ (λ i. i.number == number) (w.nodes n).items item (s.items n) there in
-    let is = asks_fetch (w.nodes n) item.message can in
-    let explicit : item ≡ record { number = item.number; message = message.FetchAsk is.0 is.1.0 is.1.1.0 } = λ i. record { number = item.number; message = is.1.1.1 i } in
-    let in_step = served_in config w n h sent.0 sent.1.0 item.number is.0 is.1.0 is.1.1.0 below s (subst (IsPosted (posts_of w.envelopes) sent.0 (Node n) sent.1.0) is.1.1.1 sent.1.1) in
-    (h, ends config w n (served (w.nodes n) item) h fit (subst (λ (i : Item). InStep config w n (served (w.nodes n) i) h (served (w.nodes n) i).node.waiting.calls (calls_in (served (w.nodes n) i).node.batches)) (sym explicit) in_step))
+told_ends config w n h item asker number key below other s there is can fit =
+    let sent = each_found _ (λ i. i.number == item.number) (w.nodes n).items item (s.items n) there in
+    let explicit : item ≡ record { number = item.number; message = message.FetchAsk asker number key } = λ i. record { number = item.number; message = is i } in
+    let in_step = served_in config w n h sent.0 sent.1.0 item.number asker number key below other s (subst (IsPosted (posts_of w.envelopes) sent.0 (Node n) sent.1.0) is sent.1.1) can in
+    let still = locks_without (λ i. i.number == item.number) (w.nodes n).items item there (ap is_lock is) in
+    let beside = beside_still config w.nodes w.coord h n (served (w.nodes n) (record { number = item.number; message = message.FetchAsk asker number key })).node still refl refl refl s.beside in (
+      h,
+      ends config w n (served (w.nodes n) item) h other fit
+          (subst (λ (i : Item). Beside config (put w.nodes n (served (w.nodes n) i).node) w.coord h) (sym explicit) beside)
+          (subst (λ (i : Item). InStep config w n (served (w.nodes n) i) h (served (w.nodes n) i).node.waiting.calls (calls_in (served (w.nodes n) i).node.batches)) (sym explicit) in_step),
+    )
+
+locked_ends : (config : Config) (w : World) (n : ℕ) (h : Ghost) (item : Item) (operation : ℕ) (keys : List Key) → n < config.nodes → n ≢ 255 → Shows config w h → item_of (w.nodes n) item.number ≡ Some item
+    → item.message ≡ message.Lock operation keys → can_shut (w.nodes n).locks keys ≡ true → All (λ letter. Fits letter.message) (served (w.nodes n) item).sent → Ends config w n (served (w.nodes n) item)
+unfolding served
+locked_ends config w n h item operation keys below other s there is can fit =
+    let same : served_as (lock_service (w.nodes n) operation keys) item.number ≡ served_as (service_of (w.nodes n) item.message) item.number =
+    λ i. served_as (service_of (w.nodes n) (sym is i)) item.number in
+    subst (Ends config w n) same (lock_served config w n h item operation keys below other s there is can (subst (λ (j : Work). All (λ letter. Fits letter.message) j.sent) (sym same) fit))
+
+-- by the kind of the item
+served_by : (config : Config) (w : World) (n : ℕ) (h : Ghost) (item : Item) (m : Message) → n < config.nodes → n ≢ 255 → Shows config w h → item_of (w.nodes n) item.number ≡ Some item
+    → item.message ≡ m → can_serve (w.nodes n) m ≡ true → All (λ letter. Fits letter.message) (served (w.nodes n) item).sent → Ends config w n (served (w.nodes n) item)
+served_by config w n h item (message.FetchAsk asker number key) below other s there is can fit = told_ends config w n h item asker number key below other s there is can fit
+served_by config w n h item (message.Lock operation keys) below other s there is can fit = locked_ends config w n h item operation keys below other s there is can fit
+served_by config w n h item others below other s there is can fit = absurd (cc)
+
+-- an item that is found has the number
+numbered : (node : NodeState) (number : ℕ) (item : Item) → item_of node number ≡ Some item → item_of node item.number ≡ Some item
+numbered node number item there =
+    let same = eqb-true item.number number (find_in (λ (i : Item). i.number == number) node.items item there).0 in
+    subst (λ k. item_of node k ≡ Some item) (sym same) there
+
+-- no node has the coordinator's seat
+apart_seat : (config : Config) (n : ℕ) → IsCluster config → n < config.nodes → n ≢ 255
+apart_seat config n cluster there own = let few = cluster.few_nodes in absurd (omega arith)
 
 pub serve_event : (config : Config) (w : World) (n number : ℕ) (h : Ghost) (k : Work) → IsCluster config → n < config.nodes → Shows config w h → node_step (w.nodes n) (Serve number) ≡ Some k
     → All (λ letter. Fits letter.message) k.sent → Ends config w n k
 serve_event config w n number h k cluster there s is =
     let x = step_served (w.nodes n) number k is in
-    subst (λ (j : Work). All (λ letter. Fits letter.message) j.sent → Ends config w n j) x.work (served_ends config w n number h x.item there s x.there x.can)
+    subst (λ (j : Work). All (λ letter. Fits letter.message) j.sent → Ends config w n j) x.work
+    (served_by config w n h x.item x.item.message there (apart_seat config n cluster there) s (numbered (w.nodes n) number x.item x.there) refl x.can)
 
 -- ---- a batch is released
 
 -- a batch that was executed keeps no calls
-calls_without : (test : Batch → Bool) (bs : List Batch) (b : Batch) → find test bs ≡ Some b → b.executed ≡ true → calls_in bs ≡ calls_in (without_first test bs)
+pub calls_without : (test : Batch → Bool) (bs : List Batch) (b : Batch) → find test bs ≡ Some b → b.executed ≡ true → calls_in bs ≡ calls_in (without_first test bs)
 calls_without test [] b is executed = absurd (cc)
 calls_without test (c ∷ bs) b is executed =
     elim (test c) as (λ t. cond t (Some c) (find test bs) ≡ Some b → calls_in (c ∷ bs) ≡ calls_in (cond t bs (c ∷ without_first test bs))) [
@@ -181,13 +236,43 @@ step_released : (node : NodeState) (number : ℕ) (k : Work) → node_step node 
 unfolding node_step
 step_released node number k is = release_is node number k (batch_of node number) refl is
 
-released_ends : (config : Config) (w : World) (n number : ℕ) (h : Ghost) (batch : Batch) → Shows config w h → batch_of (w.nodes n) number ≡ Some batch → batch.executed ≡ true
+-- a planned call is held by its batch, which is another
+holds_released : (phase : ℕ → Phase) (crossed : ℕ → List Key) (n : ℕ) (x : NodeState) (number : ℕ) (batch : Batch) → batch_of x number ≡ Some batch → batch.executed ≡ true → Holds phase crossed n x → Holds phase crossed n (released x number)
+unfolding released
+holds_released phase crossed n x number batch there executed h = record {
+  below = each_without_first _ (λ (b : Batch). b.number == number) x.batches h.below;
+  planned = λ l p plans.
+      let held = h.planned l p plans in
+      let apart : held.batch.number ≢ number = λ same.
+      let found : batch_of x number ≡ Some held.batch = subst (λ k. batch_of x k ≡ Some held.batch) same held.there in
+      let one = same_Some held.batch batch (sym found ∙ there) in
+      let both : false ≡ true = sym held.pending ∙ ap (λ (b : Batch). b.executed) one ∙ executed in
+      cc in
+      record {
+        batch = held.batch;
+        there = find_other (λ (b : Batch). b.number) x.batches held.batch.number number apart ∙ held.there;
+        pending = held.pending;
+        among = held.among;
+        lane = held.lane;
+        keys_held = λ key among. holding_other x.locks.holders held.batch.number number key apart ∙ held.keys_held key among;
+      };
+}
+  where
+    holding_other : (holders : List Holder) (m number : ℕ) (key : Key) → m ≢ number
+        → list_any (λ (h : Holder). (h.number == m) && has_key h.keys key) (filter (λ (h : Holder). not (h.number == number)) holders) ≡ list_any (λ (h : Holder). (h.number == m) && has_key h.keys key) holders
+    holding_other holders m number key apart = any-filter_same (λ (h : Holder). (h.number == m) && has_key h.keys key) (λ (h : Holder). not (h.number == number)) true
+        (λ h is. ap not (unequal h.number number (λ same. apart (sym (eqb-true h.number m (both_first (h.number == m) (has_key h.keys key) is)) ∙ same)))) holders
+
+released_ends : (config : Config) (w : World) (n number : ℕ) (h : Ghost) (batch : Batch) → n ≢ 255 → Shows config w h → batch_of (w.nodes n) number ≡ Some batch → batch.executed ≡ true
     → All (λ letter. Fits letter.message) (begun (released (w.nodes n) number)).sent → Ends config w n (begun (released (w.nodes n) number))
 unfolding released
-released_ends config w n number h batch s there executed fit =
-    let x = begins config w n h s in (
+released_ends config w n number h batch other s there executed fit =
+    let x = begins config w n h other s in
+    let y = released (w.nodes n) number in
+    let beside = beside_stepped config w.nodes w.coord h h n y s.good.operation.running (λ l. inl (refl, refl)) (λ m l p _ is. (is, refl)) (λ m _. refl) (s.beside.queues n)
+    (holds_released h.phase h.crossed n (w.nodes n) number batch there executed (s.beside.holding n)) s.beside in (
       h,
-      ends config w n (begun (released (w.nodes n) number)) h fit (record {
+      ends config w n (begun (released (w.nodes n) number)) h other fit beside (record {
         good = x.good;
         here = subst (λ ps. Held h.call h.phase n (w.nodes n).waiting.calls ps) (calls_without (λ b. b.number == number) (w.nodes n).batches batch there executed) x.here;
         others = x.others;
@@ -203,4 +288,4 @@ pub release_event : (config : Config) (w : World) (n number : ℕ) (h : Ghost) (
     → All (λ letter. Fits letter.message) k.sent → Ends config w n k
 release_event config w n number h k cluster there s is =
     let x = step_released (w.nodes n) number k is in
-    subst (λ (j : Work). All (λ letter. Fits letter.message) j.sent → Ends config w n j) x.work (released_ends config w n number h x.batch s x.there x.executed)
+    subst (λ (j : Work). All (λ letter. Fits letter.message) j.sent → Ends config w n j) x.work (released_ends config w n number h x.batch (apart_seat config n cluster there) s x.there x.executed)

@@ -1,6 +1,7 @@
 -- What a world shows: its view, and the calls that its lists keep.
-use Rattle.std.proofs.Common.{◌≡◌, ◌≢◌, ℕ, ◌+◌, ◌<◌, List, [], ◌∷◌, ◌++◌, length, Option, Some, None}
+use Rattle.std.proofs.Common.{◌≡◌, ◌≢◌, ℕ, ◌+◌, ◌<◌, ◌==◌, Bool, true, false, ◌&&◌, List, [], ◌∷◌, ◌++◌, length, Option, Some, None}
 use Rattle.std.specs.Prelude.{slice_get, map, filter, IsTrue, if◌then◌else◌, IsSome}
+use Rattle.std.specs.List.{list_any}
 use Rattle.std.specs.Result.{result_ok}
 use Rattle.fal_base.specs.declared.call.CallRec.{CallRec}
 use Rattle.fal_base.specs.declared.call.Config.{Config}
@@ -10,28 +11,49 @@ use Rattle.fal_base.specs.Transcript.{call_of}
 use Rattle.fal_client.specs.declared.current.Current.{Current}
 use Rattle.fal_client.specs.State.{ClientState}
 use Rattle.fal_base.specs.declared.key.Key.{Key}
+use Rattle.fal_base.specs.declared.row.Update.{Update}
+use Rattle.fal_base.specs.Marks.{Marks}
+use Rattle.fal_coord.specs.declared.stage.Operation.{Operation}
+use Rattle.fal_coord.specs.declared.stage.Stage.{Stage}
+use Rattle.fal_coord.specs.declared.stage.Stage.TheVariants as stage
+use Rattle.fal_coord.specs.Decide.{verdict_on}
+use Rattle.fal_coord.specs.Judged as judged
+use Rattle.fal_coord.specs.Judged.{is_for_rows}
+use Rattle.fal_coord.specs.State.{CoordState}
+use Rattle.fal_coord.specs.Walks.{walked_paths, is_operation, is_busy, parents_of, with_ends}
+use Rattle.fal_dentry.specs.Walk.{Dentries, is_among}
+use Rattle.fal_locks.specs.Keys.{has_key}
+use Rattle.fal_locks.specs.Locks.{LockTable}
 use Rattle.fal_locks.specs.declared.holder.Shut.{Shut}
 use Rattle.fal_node.specs.declared.batch.Batch.{Batch}
 use Rattle.fal_run.specs.declared.call.BatchCall.{BatchCall}
 use Rattle.fal_node.specs.declared.item.Item.{Item}
-use Rattle.fal_node.specs.State.{NodeState}
+use Rattle.fal_node.specs.State.{NodeState, batch_of}
 use Rattle.fal_wait.specs.declared.pending_fetch.PendingFetch.{PendingFetch}
 use Rattle.fal_wait.specs.declared.waiting_call.WaitingCall.{WaitingCall}
 use Rattle.fal_wait.specs.Waiting.{are_rising, WaitList, waits_on, fetch_of}
+use Rattle.fal_wire.specs.declared.message.Message.{Message}
+use Rattle.fal_wire.specs.declared.message.Message.TheVariants as message
 use Rattle.fal_wire.specs.Messages.{reading}
+use Rattle.fal_story.proofs.Events.Doing.{work_of, awaited}
 use Rattle.fal_story.proofs.Good.{Good}
 use Rattle.fal_story.proofs.Lists.Each.{Each, Apart}
 use Rattle.fal_story.proofs.Phase.{Phase, Idle, Waits, Plans}
 use Rattle.fal_story.proofs.Trees.Standing.{table_of}
-use Rattle.fal_story.proofs.View.{View, Post, Asking, Operating, Mapped, Rests, IsPosted, plain, seat}
-use Rattle.fal_story.specs.World.{World}
+use Rattle.fal_story.proofs.Lists.Members.{IsIn}
+use Rattle.fal_story.proofs.View.{View, Post, Asking, Operating, Mapped, IsPosted, plain, seat}
+use Rattle.fal_story.specs.World.{World, put}
 
--- what no state has: of each lane its last call, the commits when it was sent, where it is, and the keys on which its place rests
+-- what no state has: of each lane its last call, the commits when it was sent, where it is, and the keys on which its place rests; of each
+-- node the Lock that is its next item, and the updates that it has still to lay; and the calls for which operations were started
 pub record Ghost : Type 0 where
   pub call : ℕ → CallRec
   pub since : ℕ → ℕ
   pub phase : ℕ → Phase
   pub crossed : ℕ → List Key
+  pub queued : ℕ → Option Message
+  pub due : ℕ → List Update
+  pub starts : List (ℕ × ℕ)
 
 abbrev pub post_of : Envelope → Post
 post_of e = record { to = seat e.to; point = e.point; message = result_ok (reading e.bytes) }
@@ -42,9 +64,39 @@ posts_of envelopes = map (λ e. post_of e) envelopes
 abbrev pub askings_of : List PendingFetch → List Asking
 askings_of fetches = map (λ f. record { number = f.number; key = f.key }) fetches
 
--- no operation has begun: nothing is due or queued, and no node has heard of one
-abbrev pub resting : (ℕ → Option Shut) → (ℕ → List Key) → Operating
-resting shut crossed = record { shut = shut; queued = λ n. None; last = λ n. 0; due = λ n. []; operation = 0; work = Rests; starts = []; crossed = crossed }
+-- ---- what an operation has under way
+
+abbrev pub operating : (ℕ → Option Shut) → (ℕ → ℕ) → CoordState → Ghost → Operating
+operating shut last coord h = record {
+  shut = shut;
+  queued = h.queued;
+  last = last;
+  due = h.due;
+  operation = coord.operation;
+  work = work_of coord.stage;
+  starts = h.starts;
+  crossed = h.crossed;
+}
+
+-- ---- components of nodes, with the coordinator's at its seat
+
+abbrev pub replicas_of : (ℕ → NodeState) → CoordState → ℕ → Dentries
+replicas_of nodes coord = put (λ m. (nodes m).replica) 255 coord.replica
+
+abbrev pub fetches_of : (ℕ → NodeState) → CoordState → ℕ → List Asking
+fetches_of nodes coord = put (λ m. askings_of (nodes m).waiting.fetches) 255 (awaited coord.stage)
+
+abbrev pub opened_of : (ℕ → NodeState) → CoordState → ℕ → ℕ
+opened_of nodes coord = put (λ m. (nodes m).waiting.opened) 255 coord.asked
+
+abbrev pub taken_of : (ℕ → NodeState) → CoordState → ℕ → Marks
+taken_of nodes coord = put (λ m. (nodes m).waiting.last) 255 coord.last
+
+abbrev pub shut_of : (ℕ → NodeState) → ℕ → Option Shut
+shut_of nodes = λ m. (nodes m).locks.shut
+
+abbrev pub last_of : (ℕ → NodeState) → ℕ → ℕ
+last_of nodes = λ m. (nodes m).last_operation
 
 -- rows live where the opening table says
 abbrev pub mapped : Config → Mapped
@@ -53,10 +105,10 @@ mapped config = record { table = table_of config }
 abbrev pub view_of : Config → World → Ghost → View
 view_of config w h = record {
   rows = λ m. (w.nodes m).rows;
-  replica = λ m. (w.nodes m).replica;
-  fetches = λ m. askings_of (w.nodes m).waiting.fetches;
-  opened = λ m. (w.nodes m).waiting.opened;
-  taken = λ m. (w.nodes m).waiting.last;
+  replica = replicas_of w.nodes w.coord;
+  fetches = fetches_of w.nodes w.coord;
+  opened = opened_of w.nodes w.coord;
+  taken = taken_of w.nodes w.coord;
   drawn = λ m. (w.nodes m).drawn;
   posts = posts_of w.envelopes;
   entries = w.entries;
@@ -65,7 +117,7 @@ view_of config w h = record {
   call = h.call;
   since = h.since;
   phase = h.phase;
-  op = resting (λ m. (w.nodes m).locks.shut) h.crossed;
+  op = operating (shut_of w.nodes) (last_of w.nodes) w.coord h;
   map = mapped config;
 }
 
@@ -85,8 +137,9 @@ abbrev pub calls_in : List Batch → List BatchCall
 calls_in [] = []
 calls_in (batch ∷ batches) = pending_calls batch ++ calls_in batches
 
+-- the call waits at this node, whose number is not the coordinator's
 abbrev pub WaitsAt : (ℕ → CallRec) → (ℕ → Phase) → ℕ → WaitingCall → Type 0
-WaitsAt call phase n w = (phase (lane_of w) ≡ Waits n w.fetch) × (w.call ≡ call (lane_of w))
+WaitsAt call phase n w = (phase (lane_of w) ≡ Waits n w.fetch) × (w.call ≡ call (lane_of w)) × (n ≢ 255)
 
 abbrev pub PlannedAt : (ℕ → CallRec) → (ℕ → Phase) → ℕ → BatchCall → Type 0
 PlannedAt call phase n x = (phase (planned_lane x) ≡ Plans n x) × (x.call ≡ call (planned_lane x))
@@ -131,6 +184,69 @@ pub record IsPlaced (config : Config) (n : ℕ) (x : NodeState) : Type 0 where
   pub blocked : x.blocked ≡ None
   pub tidy : IsTidy x.waiting
 
+-- ---- what is known beside, of nodes and of the coordinator
+
+-- the Locks among the items
+abbrev pub is_lock : Message → Bool
+is_lock (message.Lock operation keys) = true
+is_lock other = false
+
+abbrev pub locks_in : List Item → List Message
+locks_in items = filter (λ m. is_lock m) (map (λ (item : Item). item.message) items)
+
+abbrev pub listed_of : Option Message → List Message
+listed_of None = []
+listed_of (Some m) = m ∷ []
+
+-- the batch holds the key
+abbrev pub is_holding : LockTable → ℕ → Key → Bool
+is_holding locks number key = list_any (λ h. (h.number == number) && has_key h.keys key) locks.holders
+
+-- the call is one of a batch that is not executed, which holds the keys
+pub record IsHeldBy (l : ℕ) (keys : List Key) (x : NodeState) (p : BatchCall) : Type 0 where
+  pub batch : Batch
+  pub there : batch_of x batch.number ≡ Some batch
+  pub pending : batch.executed ≡ false
+  pub among : IsIn p batch.calls
+  pub lane : planned_lane p ≡ l
+  pub keys_held : (key : Key) → is_among key keys ≡ true → is_holding x.locks batch.number key ≡ true
+
+-- the keys on which each planned call rests are held by its batch
+pub record Holds (phase : ℕ → Phase) (crossed : ℕ → List Key) (n : ℕ) (x : NodeState) : Type 0 where
+  pub below : Each (λ batch. batch.number < x.batches_numbered) x.batches
+  pub planned : (l : ℕ) (p : BatchCall) → phase l ≡ Plans n p → IsHeldBy l (crossed l) x p
+
+-- the operation's op and walks suit each other, and its keys are the last keys of its paths
+pub record Suits (operation : Operation) : Type 0 where
+  pub rows : IsTrue (is_for_rows operation.call.op (parents_of operation.walks))
+  pub keys : operation.keys ≡ with_ends [] (walked_paths operation.call.op) operation.walks
+
+-- the call that the coordinator is at. In each stage that waits for nodes, some node is still to be heard
+abbrev pub IsCurrent : (ℕ → CallRec) → (ℕ → Phase) → Stage → Type 0
+IsCurrent call phase stage.Idle = Unit {0}
+IsCurrent call phase (stage.Walk c number key) =
+    (c ≡ call c.id.client) × (phase c.id.client ≡ Waits 255 (Some number)) × IsTrue (is_operation c.op) × (is_busy c.op ≡ false)
+IsCurrent call phase (stage.Lock operation missing rows) = (operation.call ≡ call operation.call.id.client) × Suits operation × (missing ≢ [])
+IsCurrent call phase (stage.Count operation rows dir updates missing counts) =
+    (operation.call ≡ call operation.call.id.client) × Suits operation × (missing ≢ []) × (verdict_on operation rows ≡ judged.Count dir updates)
+IsCurrent call phase (stage.Finish keys updates missing) = missing ≢ []
+
+abbrev pub WaitsThere : (ℕ → CallRec) → (ℕ → Phase) → CallRec → Type 0
+WaitsThere call phase c = (phase c.id.client ≡ Waits 255 None) × (c ≡ call c.id.client) × IsTrue (is_operation c.op)
+
+-- the calls that the coordinator keeps, by the table of a cluster in which nothing moves
+pub record Hosts (config : Config) (call : ℕ → CallRec) (phase : ℕ → Phase) (c : CoordState) : Type 0 where
+  pub table : c.table ≡ table_of config
+  pub waiters : Each (WaitsThere call phase) c.waiting
+  pub apart : Apart (λ (k : CallRec). k.id.client) c.waiting
+  pub current : IsCurrent call phase c.stage
+
+-- what is known beside the view and what is kept at each node
+pub record Beside (config : Config) (nodes : ℕ → NodeState) (coord : CoordState) (h : Ghost) : Type 0 where
+  pub queues : (n : ℕ) → locks_in (nodes n).items ≡ listed_of (h.queued n)
+  pub holding : (n : ℕ) → Holds h.phase h.crossed n (nodes n)
+  pub hosts : Hosts config h.call h.phase coord
+
 -- the invariant of all legal runs
 pub record Shows (config : Config) (w : World) (h : Ghost) : Type 0 where
   pub good : Good config (view_of config w h)
@@ -138,3 +254,4 @@ pub record Shows (config : Config) (w : World) (h : Ghost) : Type 0 where
   pub items : (n : ℕ) → AreSent (posts_of w.envelopes) n (w.nodes n).items
   pub heard : (l : ℕ) → Heard config h.call h.phase l (w.clients l)
   pub placed : (n : ℕ) → IsPlaced config n (w.nodes n)
+  pub beside : Beside config w.nodes w.coord h

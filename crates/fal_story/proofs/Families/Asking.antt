@@ -10,9 +10,7 @@ use Rattle.fal_base.specs.declared.key.Key.{Key}
 use Rattle.fal_base.specs.declared.reply.Reply.{Reply}
 use Rattle.fal_base.specs.Commits.{Commit, tree_at}
 use Rattle.fal_base.specs.Tree.{Tree, row_at}
-use Rattle.fal_dentry.specs.TreeWalk.{way}
 use Rattle.fal_dentry.specs.Walk.{is_among}
-use Rattle.fal_exec.specs.RowCall.{row_names}
 use Rattle.fal_duty.specs.Duties.{found_of}
 use Rattle.fal_place.specs.Placement.{Placement, owner}
 use Rattle.fal_wire.specs.declared.message.Found.{Found}
@@ -21,9 +19,10 @@ use Rattle.fal_wire.specs.declared.message.Message.{Message}
 use Rattle.fal_wire.specs.declared.message.Message.TheVariants as message
 use Rattle.fal_story.proofs.Lists.Grown.{from_put, put_all, put_both, slice_get_snoc}
 use Rattle.fal_story.proofs.Phase.{Phase, Waits, Tells, Replies, IsBare}
-use Rattle.fal_story.proofs.Trees.Changed.{IsChanged, dir_kept, reach_kept, up_to}
+use Rattle.fal_story.proofs.Trees.Changed.{IsChanged, dir_kept}
 use Rattle.fal_story.proofs.Trees.Commits.{longer, tree_at_front}
-use Rattle.fal_story.proofs.Trees.Standing.{HasDir, Reaches, tree_now}
+use Rattle.fal_story.proofs.Trees.Paths.{ways_to, paths_kept}
+use Rattle.fal_story.proofs.Trees.Standing.{HasDir, Reaches, call_paths, tree_now}
 use Rattle.fal_story.proofs.View.{posted_more, Post, Asking, IsPosted, post}
 use Rattle.fal_base.specs.declared.inode.Dentry.{Dentry}
 use Rattle.fal_base.specs.declared.inode.Inode.{Inode}
@@ -53,11 +52,7 @@ IsCrossed crossed key = is_among key crossed ≡ true
 
 -- the way of the call up to the key is among these keys
 abbrev pub Crosses : Tree → CallRec → Key → List Key → Type 0
-Crosses tree call key crossed = IsSomeAnd (row_names call.op) (λ names. All (IsCrossed crossed) (up_to key (way tree call.cred names)))
-
--- the walk comes to the key, by keys of which each is safe
-abbrev ReachesBy : (Key → Type 0) → Tree → CallRec → Key → Type 0
-ReachesBy P tree call key = IsSomeAnd (row_names call.op) (λ names. (is_among key (way tree call.cred names) ≡ true) × All P (up_to key (way tree call.cred names)))
+Crosses tree call key crossed = All (IsCrossed crossed) (ways_to tree call.cred (call_paths call.op) key)
 
 -- a fetch was opened after o commits: not before a call that waits on it was sent; from then on the walk of each of them has come to the key; and each answer is younger
 pub record IsOpened (commits : List Commit) (posts : List Post) (call : ℕ → CallRec) (since : ℕ → ℕ) (phase : ℕ → Phase) (crossed : ℕ → List Key) (n : ℕ) (f : Asking) (o : ℕ) : Type 0 where
@@ -121,10 +116,6 @@ module _ (nodes : ℕ) (table : Placement) (pending : ℕ → List Asking) (open
 
 -- ---- one commit more
 
-joined_all : {X : Type 0} (o : Option X) (P Q R : X → Type 0) → ((x : X) → P x → Q x → R x) → IsSomeAnd o P → IsSomeAnd o Q → IsSomeAnd o R
-joined_all None P Q R f p q = p
-joined_all (Some x) P Q R f p q = f x p q
-
 pub weaker : {X : Type 0} (o : Option X) (P Q : X → Type 0) → ((x : X) → P x → Q x) → IsSomeAnd o P → IsSomeAnd o Q
 weaker None P Q f p = p
 weaker (Some x) P Q f p = f x p
@@ -133,15 +124,15 @@ last_or : (k n m : ℕ) → m ≡ n + 1 → k ≤ m → (k ≤ n) ⊎ (k ≡ m)
 last_or k n m one to = grind arith
 
 module _ (t u : Tree) (Safe : Key → Type 0) (changed : IsChanged t u Safe) (call : CallRec) (q : Key) (crossed : List Key) (safe : (k : Key) → IsCrossed crossed k → Safe k) where
-  safe_way : (names : List (List ℕ)) → All (IsCrossed crossed) (up_to q (way t call.cred names)) → All Safe (up_to q (way t call.cred names))
-  safe_way names all = All-weaker (IsCrossed crossed) Safe safe (up_to q (way t call.cred names)) all
+  both_kept : Reaches t call q → Crosses t call q crossed → Reaches u call q × (ways_to u call.cred (call_paths call.op) q ≡ ways_to t call.cred (call_paths call.op) q)
+  both_kept reaches crosses =
+      paths_kept t u Safe call.cred changed q (call_paths call.op) (All-weaker (IsCrossed crossed) Safe safe (ways_to t call.cred (call_paths call.op) q) crosses) reaches
 
   reaches_kept : Reaches t call q → Crosses t call q crossed → Reaches u call q
-  reaches_kept reaches crosses = joined_all (row_names call.op) _ _ _ (λ names is all. (reach_kept t u Safe call.cred changed names q (safe_way names all) is).0) reaches crosses
+  reaches_kept reaches crosses = (both_kept reaches crosses).0
 
   crosses_kept : Reaches t call q → Crosses t call q crossed → Crosses u call q crossed
-  crosses_kept reaches crosses =
-      joined_all (row_names call.op) _ _ _ (λ names is all. subst (All (IsCrossed crossed)) (sym (reach_kept t u Safe call.cred changed names q (safe_way names all) is).1) all) reaches crosses
+  crosses_kept reaches crosses = subst (All (IsCrossed crossed)) (sym (both_kept reaches crosses).1) crosses
 
 founds_kept : (commits : List Commit) (c : Commit) (posts : List Post) → Founds posts commits → Founds posts (commits ++ c ∷ [])
 founds_kept commits c posts founds e n p number key what posted =

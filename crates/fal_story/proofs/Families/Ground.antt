@@ -13,10 +13,11 @@ use Rattle.fal_base.specs.Tree.{Tree, row_at}
 use Rattle.fal_base.specs.Updates.{laid, laid_at, keys_of}
 use Rattle.fal_base.proofs.Updates.{laid_swap}
 use Rattle.fal_dentry.specs.Walk.{Dentries, is_among}
+use Rattle.fal_duty.specs.Duties.{owned}
 use Rattle.fal_place.specs.Placement.{Placement, owner}
 use Rattle.fal_story.proofs.Lists.Grown.{put_all, put_both, unequal}
 use Rattle.fal_story.proofs.Trees.Changed.{IsChanged, dir_kept}
-use Rattle.fal_story.proofs.Trees.Laid.{owned, laid_owned, own_laid, other_laid, owned_none}
+use Rattle.fal_story.proofs.Trees.Laid.{laid_owned, own_laid, other_laid, owned_none}
 use Rattle.fal_story.proofs.Trees.Standing.{HasDir, row_of, tree_now}
 use Rattle.fal_story.proofs.View.{Asking}
 use Rattle.fal_story.specs.World.{put}

@@ -1,6 +1,6 @@
 -- The operation of the coordinator: where it is, where each node is, and what records tell of it.
 use Rattle.std.proofs.Common.{◌≡◌, ◌≢◌, ◌⊎◌, inl, inr, ⊎_elim, ℕ, zero, suc, ◌<◌, ◌≤◌, Bool, true, false, ◌||◌, List, [], ◌∷◌, length, Option, Some, None, IsSomeAnd, refl, arith}
-use Rattle.std.specs.List.{All, list_any}
+use Rattle.std.specs.List.{All}
 use Rattle.std.specs.Option.{option_map}
 use Rattle.std.specs.Prelude.{slice_get, ◌==◌, if◌then◌else◌}
 use Rattle.fal_base.specs.declared.call.CallRec.{CallRec}
@@ -15,7 +15,9 @@ use Rattle.fal_base.specs.Tree.{Tree, row_at, same_key}
 use Rattle.fal_base.specs.Walk.{Ready, walk, dentry_of}
 use Rattle.fal_base.specs.Updates.{keys_of}
 use Rattle.fal_base.proofs.Entries.{SomeUnder}
+use Rattle.fal_coord.specs.Nodes.{is_missing, numbers_below}
 use Rattle.fal_dentry.specs.Walk.{is_among}
+use Rattle.fal_duty.specs.Duties.{owned, rows_of}
 use Rattle.fal_run.specs.Calls.{is_making}
 use Rattle.fal_place.specs.Placement.{Placement, owner}
 use Rattle.fal_wire.specs.declared.message.Message.{Message}
@@ -23,18 +25,13 @@ use Rattle.fal_wire.specs.declared.message.Message.TheVariants as message
 use Rattle.fal_locks.specs.declared.holder.Shut.{Shut}
 use Rattle.fal_story.proofs.Lists.Grown.{tells}
 use Rattle.fal_story.proofs.Phase.{Phase, Runs, IsPast}
-use Rattle.fal_story.proofs.Trees.Laid.{owned}
 use Rattle.fal_story.proofs.Trees.Standing.{tree_now, NoneUnder}
 use Rattle.fal_story.proofs.View.{Post, Asking, IsPosted, Kept, Work, Rests, Walks, Locks, Counts, Ends}
 
 -- ---- numbers of nodes
 
 abbrev pub IsMissing : ℕ → List ℕ → Type 0
-IsMissing n missing = list_any (λ m. m == n) missing ≡ true
-
-abbrev pub numbers_below : ℕ → List ℕ
-numbers_below zero = []
-numbers_below (suc n) = n ∷ numbers_below n
+IsMissing n missing = is_missing n missing ≡ true
 
 either_true : (a b : Bool) → (a ≡ true) ⊎ (b ≡ true) → (a || b) ≡ true
 either_true true b is = refl
@@ -79,11 +76,6 @@ LocksKeys (Walks lane) keys = ⊥
 LocksKeys (Locks lane locked walks missing rows) keys = locked ≡ keys
 LocksKeys (Counts lane locked walks missing rows dir updates sum) keys = locked ≡ keys
 LocksKeys (Ends locked updates missing) keys = locked ≡ keys
-
--- the rows of the tree under those of the keys that live at the node
-abbrev pub rows_of : Placement → Tree → ℕ → List Key → List Update
-rows_of table tree n [] = []
-rows_of table tree n (key ∷ keys) = if owner table key == n then record { key = key; row = row_at tree key } ∷ rows_of table tree n keys else rows_of table tree n keys
 
 abbrev pub ToldLocked : Placement → Tree → ℕ → Work → Option Shut → ℕ → List Update → Type 0
 ToldLocked table tree operation Rests shut n rows = Unit {0}

@@ -10,15 +10,16 @@ use Rattle.fal_base.specs.declared.row.Update.{Update}
 use Rattle.fal_base.specs.Commits.{Commit}
 use Rattle.fal_base.specs.Tree.{Tree}
 use Rattle.fal_base.specs.Updates.{keys_of}
+use Rattle.fal_coord.specs.Nodes.{numbers_below}
 use Rattle.fal_dentry.specs.Walk.{is_among}
+use Rattle.fal_duty.specs.Duties.{owned}
 use Rattle.fal_place.specs.Placement.{Placement}
 use Rattle.fal_wire.specs.declared.message.Message.{Message}
 use Rattle.fal_wire.specs.declared.message.Message.TheVariants as message
 use Rattle.fal_locks.specs.declared.holder.Shut.{Shut}
-use Rattle.fal_story.proofs.Families.Operation.{HasShut, IsOf, IsQuiet, IsTold, LocksKeys, Operation, Stands, ToldCommit, ToldDone, among_below, numbers_below}
+use Rattle.fal_story.proofs.Families.Operation.{HasShut, IsOf, IsQuiet, IsTold, LocksKeys, Operation, Stands, ToldCommit, ToldDone, among_below}
 use Rattle.fal_story.proofs.Lists.Grown.{from_put, put_all}
 use Rattle.fal_story.proofs.Phase.{Phase, Runs, Tells, Replies, IsPast}
-use Rattle.fal_story.proofs.Trees.Laid.{owned}
 use Rattle.fal_story.proofs.Trees.Standing.{tree_now}
 use Rattle.fal_story.proofs.View.{Post, Asking, Work, Rests, Walks, Locks, Counts, Ends}
 use Rattle.fal_story.specs.World.{put}

@@ -16,11 +16,12 @@ use Rattle.fal_base.specs.Tree.{Tree, row_at, same_key}
 use Rattle.fal_base.proofs.Entries.{SomeUnder}
 use Rattle.fal_dentry.specs.TreeWalk.{way}
 use Rattle.fal_dentry.specs.Walk.{is_among}
+use Rattle.fal_duty.specs.Duties.{rows_of}
 use Rattle.fal_place.specs.Placement.{Placement, owner}
 use Rattle.fal_wire.specs.declared.message.Message.{Message}
 use Rattle.fal_wire.specs.declared.message.Message.TheVariants as message
 use Rattle.fal_locks.specs.declared.holder.Shut.{Shut}
-use Rattle.fal_story.proofs.Families.Operation.{AreCounted, AreHeard, AreKept, HasDirs, IsCounted, IsKept, IsTold, Operation, Stands, ToldCounted, ToldLocked, row_told, rows_of, shut_by}
+use Rattle.fal_story.proofs.Families.Operation.{AreCounted, AreHeard, AreKept, HasDirs, IsCounted, IsKept, IsTold, Operation, Stands, ToldCounted, ToldLocked, row_told, shut_by}
 use Rattle.fal_story.proofs.Lists.Grown.{from_put, put_all, tells, or_second}
 use Rattle.fal_story.proofs.Phase.{Phase, Runs, Tells, Replies, IsPast}
 use Rattle.fal_story.proofs.Trees.Changed.{IsChanged, ready_kept}

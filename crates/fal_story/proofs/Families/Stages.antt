@@ -11,13 +11,15 @@ use Rattle.fal_base.specs.declared.row.Update.{Update}
 use Rattle.fal_base.specs.Commits.{Commit}
 use Rattle.fal_base.proofs.Maps.{same_key_is}
 use Rattle.fal_base.specs.Tree.{Tree, row_at, same_key}
+use Rattle.fal_coord.specs.Nodes.{numbers_below, without_node}
 use Rattle.fal_dentry.specs.Walk.{is_among}
+use Rattle.fal_duty.specs.Duties.{rows_of}
 use Rattle.fal_run.specs.Calls.{is_making}
 use Rattle.fal_place.specs.Placement.{Placement, owner}
 use Rattle.fal_wire.specs.declared.message.Message.{Message}
 use Rattle.fal_wire.specs.declared.message.Message.TheVariants as message
 use Rattle.fal_locks.specs.declared.holder.Shut.{Shut}
-use Rattle.fal_story.proofs.Families.Operation.{Operation, operation_placed, Starts, Stands, IsTold, IsMissing, IsKept, row_told, rows_of, numbers_below, among_below, shut_by, IsCounted}
+use Rattle.fal_story.proofs.Families.Operation.{Operation, operation_placed, Starts, Stands, IsTold, IsMissing, IsKept, row_told, among_below, shut_by, IsCounted}
 use Rattle.fal_story.proofs.Families.Told.{told_counted, told_counting, told_done, told_ended, told_given_up, told_heard, told_locking, told_shut, told_started}
 use Rattle.fal_story.proofs.Lists.Grown.{from_put, put_all, put_both, put_same, tells, unequal, slice_get_snoc}
 use Rattle.fal_story.proofs.Phase.{Phase, Runs, Tells, Replies, IsPast}
@@ -67,10 +69,6 @@ starts_on : (starts : List (ℕ × ℕ)) (operation : ℕ) (work work' : Work) (
 starts_on starts operation work work' seq phase none x = record { count = x.count; apart = x.apart; sent = x.sent; last = λ i a at. inr (⊎_elim (λ e. absurd (none a e)) (λ past. past) (x.last i a at)) }
 
 -- ---- nodes that were not heard
-
-abbrev pub without_node : ℕ → List ℕ → List ℕ
-without_node n [] = []
-without_node n (m ∷ missing) = if m == n then without_node n missing else m ∷ without_node n missing
 
 -- another node stays among them
 still_missing : (n m : ℕ) (missing : List ℕ) → m ≢ n → IsMissing m missing → IsMissing m (without_node n missing)

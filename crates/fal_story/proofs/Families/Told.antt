@@ -4,11 +4,12 @@ use Rattle.fal_base.specs.declared.event.Actor.{Actor}
 use Rattle.fal_base.specs.declared.key.Key.{Key}
 use Rattle.fal_base.specs.declared.row.Update.{Update}
 use Rattle.fal_base.specs.Tree.{Tree}
+use Rattle.fal_duty.specs.Duties.{rows_of}
 use Rattle.fal_place.specs.Placement.{Placement}
 use Rattle.fal_wire.specs.declared.message.Message.{Message}
 use Rattle.fal_wire.specs.declared.message.Message.TheVariants as message
 use Rattle.fal_locks.specs.declared.holder.Shut.{Shut}
-use Rattle.fal_story.proofs.Families.Operation.{IsTold, rows_of, shut_by}
+use Rattle.fal_story.proofs.Families.Operation.{IsTold, shut_by}
 use Rattle.fal_story.proofs.Lists.Grown.{put_all}
 use Rattle.fal_story.proofs.View.{Kept, Rests, Walks, Locks, Ends, Counts}
 use Rattle.fal_story.specs.World.{put}

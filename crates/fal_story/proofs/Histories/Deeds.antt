@@ -1,20 +1,19 @@
 -- What an event under way leaves of the world, and which actor it changes.
 use Rattle.std.proofs.Common.{◌≡◌, ◌≢◌, ⊎_elim, ℕ, true, false, Option, Some, None, refl, sym, ap, ◌∙◌, subst}
-use Rattle.std.specs.Prelude.{slice_get, ◌==◌}
+use Rattle.std.specs.Prelude.{◌==◌}
 use Rattle.std.proofs.lemmas.Option.{none-some, same_Some}
 use Rattle.fal_base.specs.declared.call.Config.{Config}
 use Rattle.fal_base.specs.declared.event.Actor.{Actor}
 use Rattle.fal_base.specs.declared.event.Actor.TheVariants.{Client, Node, Coord}
 use Rattle.fal_base.specs.declared.event.Envelope.{Envelope}
 use Rattle.fal_base.specs.declared.event.Event.{Event}
-use Rattle.fal_base.specs.declared.event.Event.TheVariants as event
 use Rattle.fal_client.specs.State.{Work as ClientWork}
 use Rattle.fal_coord.specs.State.{Work as CoordWork}
 use Rattle.fal_node.specs.Letters.{Work}
 use Rattle.fal_story.proofs.Lists.Grown.{put_same, put_other, tells}
 use Rattle.fal_story.specs.Actors.{actor_of, is_actor}
-use Rattle.fal_story.specs.Machines.{Machine, ClientMachine, NodeMachine, CoordMachine, Made, client_made, node_made, coord_made, coord_hears, client_work, node_work, coord_work, machine_step, envelope_named}
-use Rattle.fal_story.specs.Run.{Deed, machine_in, with_machine, deed_by, deed, done, step}
+use Rattle.fal_story.specs.Machines.{Machine, ClientMachine, NodeMachine, CoordMachine, Made, client_made, node_made, coord_made, client_work, node_work, coord_work, machine_step, envelope_named}
+use Rattle.fal_story.specs.Run.{Deed, machine_in, with_machine, deed_by, deed}
 use Rattle.fal_story.specs.World.{World}
 
 -- what an event under way leaves of the world, and who makes it
@@ -89,13 +88,3 @@ others_stay w Coord (Client k) (CoordMachine c) other = refl
 others_stay w Coord (Node k) (CoordMachine c) other = refl
 others_stay w Coord Coord m other = absurd (cc)
 others_stay w a b m other = refl
-
--- ---- the coordinator
-
--- it makes nothing of what comes to it
-pub unheard : (config : Config) (w : World) (number : ℕ) → deed config w (event.Hear number) ≡ None
-unfolding deed
-unheard config w number = elim (slice_get w.envelopes number) as (λ o. deed_by w Coord (coord_made (coord_hears w.coord o)) ≡ None) [ None ↦ refl | Some x ↦ refl ]
-
-pub no_hear : (config : Config) (w u : World) (number : ℕ) → step config w (event.Hear number) ≡ Some u → ⊥
-no_hear config w u number at = none-some u (sym (ap (done config) (unheard config w number)) ∙ at)

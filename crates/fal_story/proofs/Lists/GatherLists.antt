@@ -77,7 +77,7 @@ in_has (u ∷ us) t m =
 
 -- ---- the batch, and the calls that leave
 
-abbrev call_with : CallRec → Planned → BatchCall
+abbrev pub call_with : CallRec → Planned → BatchCall
 call_with call x = record { call = call; denied = x.denied; parent = x.parent; last = x.last }
 
 -- a call that leaves, to a node or to its client
@@ -96,7 +96,7 @@ leaver_with call a = record { ticket = a.ticket; call = call; to = a.to }
 abbrev pub leavers : WaitList → List Away → List Leaver
 leavers list aways = made leaver_with (λ a. a.ticket) list aways
 
-batch_is : (list : WaitList) (xs : List Planned) → batch_calls list xs ≡ made call_with (λ x. x.ticket) list xs
+pub batch_is : (list : WaitList) (xs : List Planned) → batch_calls list xs ≡ made call_with (λ x. x.ticket) list xs
 batch_is list [] = refl
 batch_is list (x ∷ xs) =
     elim (call_with_ticket list x.ticket) as (λ o. batch_call o x ++ batch_calls list xs ≡ made_of call_with o x ++ made call_with (λ y. y.ticket) list xs) [
@@ -153,7 +153,7 @@ module _ (s : Setting) (list : WaitList) (t : IsTidy list) where
   abbrev plan : Planning
   plan = plan_of s list
 
-  apart : Apart (λ w. w.ticket) list.calls
+  pub apart : Apart (λ w. w.ticket) list.calls
   apart = rising_apart list.calls list.tickets t.tickets
 
   free_are : free_calls list ≡ free_of list.calls
@@ -171,7 +171,7 @@ module _ (s : Setting) (list : WaitList) (t : IsTidy list) where
   going : IsGoing plan
   going = going_calls s no_plan (free_calls list) (record { asked = refl; away = refl; some = tt })
 
-  joining : Each (Joining s list.calls) plan.calls
+  pub joining : Each (Joining s list.calls) plan.calls
   joining = joining_calls s list.calls no_plan (free_calls list) free_in tt
 
   pub departing : Each (Leaving s list.calls) plan.away

@@ -78,6 +78,13 @@ only_one x k y e = ⊎_elim (λ h. absurd (cc)) (λ h. h.1) (slice_get_snoc [] x
 pub put_put : {A : Type 0} (f : ℕ → A) (n : ℕ) (x y : A) → ◌≡◌ {A = ℕ → A} (put (put f n x) n y) (put f n y)
 put_put f n x y = fun_ext (λ m. elim (m == n) as (λ b. cond b y (cond b x (f m)) ≡ cond b y (f m)) [ true ↦ refl | false ↦ refl ])
 
+-- changes at two places may be made in either order
+pub put_swap : {A : Type 0} (f : ℕ → A) (n m : ℕ) (x y : A) → n ≢ m → ◌≡◌ {A = ℕ → A} (put (put f n x) m y) (put (put f m y) n x)
+put_swap {A} f n m x y apart = fun_ext (λ k. ⊎_elim {C = put (put f n x) m y k ≡ put (put f m y) n x k}
+    (λ h. ap (λ b. cond b y (put f n x k)) h.0 ∙ sym (put_other (put f m y) n x k (λ e. apart (sym e ∙ h.1)) ∙ ap (λ b. cond b y (f k)) h.0))
+    (λ h. ap (λ b. cond b y (put f n x k)) h.0 ∙ ap (λ v. cond (k == n) x v) (sym (put_other f m y k h.1)))
+    (tells k m))
+
 pub or_second : (a b : Bool) → b ≡ true → (a || b) ≡ true
 or_second true b is = refl
 or_second false b is = is

@@ -20,7 +20,7 @@ made f ticket list (x ∷ xs) = made_of f (call_with_ticket list (ticket x)) x +
 
 module _ {A B : Type 0} (f : CallRec → A → B) (ticket : A → ℕ) (Is : WaitingCall → A → Type 0) (same : (w : WaitingCall) (x : A) → Is w x → w.ticket ≡ ticket x)
     (list : WaitList) (apart : Apart (λ w. w.ticket) list.calls) where
-  found : (w : WaitingCall) (x : A) → IsIn w list.calls → w.ticket ≡ ticket x → call_with_ticket list (ticket x) ≡ Some w.call
+  pub found : (w : WaitingCall) (x : A) → IsIn w list.calls → w.ticket ≡ ticket x → call_with_ticket list (ticket x) ≡ Some w.call
   found w x m is = ap (call_with_ticket list) (sym is) ∙ each_in (λ v. call_with_ticket list v.ticket ≡ Some v.call) list.calls w (call_found list apart) m
 
   -- what holds of each with its call's record holds of each that is made

@@ -262,3 +262,14 @@ in_without_first f p (x ∷ xs) y m =
       | true ↦ λ r. inr r
       | false ↦ λ r. ⊎_elim (λ e. inl e) (λ z. inr (in_without_first f p xs y z)) r
     ] m
+
+-- an item of another number is found as before
+pub find_other : {A : Type 0} (g : A → ℕ) (xs : List A) (m number : ℕ) → m ≢ number → find (λ x. g x == m) (without_first (λ x. g x == number) xs) ≡ find (λ x. g x == m) xs
+find_other g [] m number ne = refl
+find_other g (x ∷ xs) m number ne =
+    ⊎_elim
+    (λ e. ap (λ b. find (λ y. g y == m) (cond b xs (x ∷ without_first (λ y. g y == number) xs))) e.0
+    ∙ sym (ap (λ b. cond b (Some x) (find (λ y. g y == m) xs)) (unequal (g x) m (λ same. ne (sym same ∙ e.1)))))
+    (λ e. ap (λ b. find (λ y. g y == m) (cond b xs (x ∷ without_first (λ y. g y == number) xs))) e.0
+    ∙ ap (λ o. cond (g x == m) (Some x) o) (find_other g xs m number ne))
+    (tells (g x) number)

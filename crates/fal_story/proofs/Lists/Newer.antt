@@ -1,9 +1,9 @@
 -- The order of the marks of a client's calls: what is not newer than a mark stays so when the mark grows.
-use Rattle.std.proofs.Common.{◌≡◌, ◌≢◌, ◌⊎◌, inl, inr, ℕ, ◌<◌, cond, true, false, Option, Some, None, refl, ap, ◌∙◌, arith}
+use Rattle.std.proofs.Common.{◌≡◌, ◌≢◌, ◌⊎◌, inl, inr, ℕ, ◌+◌, ◌<◌, cond, true, false, Option, Some, None, refl, sym, ap, ◌∙◌, arith}
 use Rattle.std.specs.declared.cmp.Ordering.{Ordering}
 use Rattle.std.specs.declared.cmp.Ordering.TheVariants.{Less, Equal, Greater}
-use Rattle.std.specs.Ordering.{nat_cmp, ordering_reverse, is_gt, is_eq, MatchOrdering}
-use Rattle.std.specs.Cmp.{IsTotalOrder, then_total, on_total, nat_cmp_total, tied_itself}
+use Rattle.std.specs.Ordering.{nat_cmp, ordering_then, ordering_reverse, is_gt, is_eq, MatchOrdering}
+use Rattle.std.specs.Cmp.{nat_cmp_is, IsTotalOrder, then_total, on_total, nat_cmp_total, tied_itself}
 use Rattle.std.specs.FinMap.Entries.{find-put}
 use Rattle.std.proofs.lemmas.Cmp.{ranked}
 use Rattle.fal_base.specs.declared.mark.Mark.{Mark}
@@ -36,6 +36,26 @@ not_newer_later a b (Some last) newer old =
       | true ↦ λ is. let beyond : is_gt (mark_cmp a last) ≡ true = turned_back a last (mark_cmp_total.trans last b a (turned b last newer) (turned a b is)) in absurd (cc)
       | false ↦ λ is. refl
     ] refl
+
+-- what is newer than the last mark is newer than one that is not
+pub newer_past : (a b m : Mark) → is_newer b (Some a) ≡ true → is_newer m (Some a) ≡ false → is_newer b (Some m) ≡ true
+newer_past a b m newer old =
+    let above : mark_cmp a b ≡ Less = turned b a newer in
+    turned_back b m
+    (elim (mark_cmp m a) as (λ r. mark_cmp m a ≡ r → is_gt r ≡ false → mark_cmp m b ≡ Less) [
+      | Less ↦ λ is _. mark_cmp_total.trans m a b is above
+      | Equal ↦ λ is _. mark_cmp_total.congr m a b is ∙ above
+      | Greater ↦ λ is no. absurd (cc)
+    ] refl old)
+
+-- a call that is handed on is newer
+pub newer_hop : (m : Mark) → is_newer (record m { hop = m.hop + 1 }) (Some m) ≡ true
+unfolding mark_cmp
+newer_hop m =
+    let higher : m.hop < m.hop + 1 = omega arith in
+    ap (λ r. is_gt (ordering_then r (ordering_then (nat_cmp m.attempt m.attempt) (nat_cmp (m.hop + 1) m.hop)))) (sym (nat_cmp_is m.seq m.seq Equal refl))
+    ∙ ap (λ r. is_gt (ordering_then r (nat_cmp (m.hop + 1) m.hop))) (sym (nat_cmp_is m.attempt m.attempt Equal refl))
+    ∙ ap (λ r. is_gt r) (sym (nat_cmp_is (m.hop + 1) m.hop Greater higher))
 
 -- the mark of the client that was put, or of another
 abbrev pub IsMarkOf : Marks → ℕ → Mark → ℕ → Type 0

@@ -1,17 +1,17 @@
 -- Tidy waiting lists: what they are after a call is admitted, after a fetch is settled, and after its waiters have left.
 use Rattle.std.proofs.Common.{◌≡◌, ◌≢◌, ⊎_elim, ℕ, ◌+◌, ◌<◌, ◌==◌, nat_lt, Bool, true, false, not, ◌&&◌, ◌||◌, cond, List, [], ◌∷◌, ◌++◌, map, filter, Option, Some, None, is_some, IsSome, refl, sym, ap, subst, ◌∙◌, append-nil, eq-eqb, arith}
 use Rattle.std.specs.Prelude.{slice_get}
-use Rattle.std.specs.List.{find, list_all}
+use Rattle.std.specs.List.{list_all}
 use Rattle.std.specs.Option.{option_map}
 use Rattle.std.proofs.lemmas.Bool.Decides.{nat_tests}
 use Rattle.std.proofs.lemmas.Option.{same_Some}
+use Rattle.fal_wire.specs.Letters.{reply_letter}
 use Rattle.fal_base.specs.declared.call.CallRec.{CallRec}
 use Rattle.fal_base.specs.declared.event.Point.TheVariants.{Carried}
 use Rattle.fal_base.specs.declared.reply.Errno.{Errno}
 use Rattle.fal_base.specs.declared.reply.Reply.TheVariants.{Fail}
 use Rattle.fal_batch.proofs.Truth.{both, both_first, both_second}
 use Rattle.fal_node.specs.Deliver.{without_calls, refusal, refusals}
-use Rattle.fal_run.specs.Letters.{reply_letter}
 use Rattle.fal_wait.specs.declared.pending_fetch.PendingFetch.{PendingFetch}
 use Rattle.fal_wait.specs.declared.waiting_call.WaitingCall.{WaitingCall}
 use Rattle.fal_wait.specs.Lists.{without_first, has_number}
@@ -19,7 +19,7 @@ use Rattle.fal_wait.specs.Waiting.{are_rising, WaitList, call_with_ticket, fetch
 use Rattle.fal_story.proofs.Events.Shows.{IsTidy, IsTied, askings_of}
 use Rattle.fal_story.proofs.Lists.Each.{Each, Apart, each_weaker, each_join, each_both}
 use Rattle.fal_story.proofs.Lists.Grown.{tells, unequal}
-use Rattle.fal_story.proofs.Lists.Members.{in_at, at_in, each_in, each_by, each_all, each_map, each_filter, each_of_all, find_in, find_apart, in_map, filter_join, filter_filter, filter_all, kept_same, told_same, each_without_first, apart_without_first, gone_apart, gone_is_filter, in_without_first}
+use Rattle.fal_story.proofs.Lists.Members.{in_at, at_in, each_in, each_by, each_all, each_map, each_filter, each_of_all, find_in, find_apart, find_other, in_map, filter_join, filter_filter, filter_all, kept_same, told_same, each_without_first, apart_without_first, gone_apart, gone_is_filter, in_without_first}
 use Rattle.fal_story.proofs.View.{Asking}
 
 -- ---- tickets that rise
@@ -168,16 +168,6 @@ off_still m number (Some k) e =
     (λ t. let is : Some k ≡ Some m = sym (ap (λ b. cond b None (Some k)) t.0) ∙ e in (is, λ same. t.1 (same_Some k m is ∙ same)))
     (tells k number)
 
-find_other : (fs : List PendingFetch) (m number : ℕ) → m ≢ number → find (λ f. f.number == m) (without_first (λ f. f.number == number) fs) ≡ find (λ f. f.number == m) fs
-find_other [] m number ne = refl
-find_other (f ∷ fs) m number ne =
-    ⊎_elim
-    (λ e. ap (λ b. find (λ g. g.number == m) (cond b fs (f ∷ without_first (λ g. g.number == number) fs))) e.0
-    ∙ sym (ap (λ b. cond b (Some f) (find (λ g. g.number == m) fs)) (unequal f.number m (λ same. ne (sym same ∙ e.1)))))
-    (λ e. ap (λ b. find (λ g. g.number == m) (cond b fs (f ∷ without_first (λ g. g.number == number) fs))) e.0
-    ∙ ap (λ o. cond (f.number == m) (Some f) o) (find_other fs m number ne))
-    (tells f.number number)
-
 tidy_without : (list : WaitList) (number : ℕ) → IsTidy list → IsTidy (without_fetch list number)
 unfolding without_fetch
 tidy_without list number t =
@@ -188,7 +178,7 @@ tidy_without list number t =
       pending = each_map (λ (w : WaitingCall). (m : ℕ) → w.fetch ≡ Some m → IsSome (fetch_of (without_fetch list number) m)) (λ w. off_fetch number w) list.calls
           (each_weaker _ _ list.calls (λ w h m e.
           let was = off_still m number w.fetch (sym (fetch_off number w) ∙ e) in
-          ap is_some (find_other list.fetches m number was.1) ∙ h m was.0) t.pending);
+          ap is_some (find_other (λ (f : PendingFetch). f.number) list.fetches m number was.1) ∙ h m was.0) t.pending);
       tied = each_both (IsTied list.calls) (λ f. f.number ≢ number) (IsTied (map (λ w. off_fetch number w) list.calls)) (without_first (λ f. f.number == number) list.fetches)
           (λ f h ne. (
             h.0 ∙ sym (told_same (λ (w : WaitingCall). w.ticket) (λ w. off_fetch number w) (λ w. waits_on f.number w.fetch) (λ w. waits_on f.number w.fetch) list.calls

@@ -28,6 +28,7 @@ use Rattle.fal_client.specs.Step.{IsInRange, attempt_of, is_to_lane as is_lanes,
 use Rattle.fal_wire.specs.declared.fault.WireFault.{WireFault}
 use Rattle.fal_wire.specs.declared.message.Message.{Message}
 use Rattle.fal_wire.specs.declared.message.Message.TheVariants as message
+use Rattle.fal_wire.specs.declared.letter.Letter.{Letter}
 use Rattle.fal_wire.specs.Messages.{Fits, reading}
 use Rattle.fal_wire.specs.Numbers.{lane_field, ordinal_field, cred_field, id_field}
 use Rattle.fal_wire.specs.Ops.{op_field, call_field}
@@ -35,12 +36,12 @@ use Rattle.fal_wire.proofs.ReadingLaws.{spelled_reads}
 use Rattle.fal_story.proofs.Events.Shows.{Ghost, Shows, posts_of, post_of}
 use Rattle.fal_story.proofs.Families.Records.{IsResponse}
 use Rattle.fal_story.proofs.Lists.Each.{Each}
-use Rattle.fal_story.proofs.Lists.EachAll.{all_of_each, all_at}
+use Rattle.fal_story.proofs.Lists.EachAll.{all_at}
 use Rattle.fal_story.proofs.Lists.Grown.{slice_get_below}
 use Rattle.fal_story.proofs.Phase.{Phase}
 use Rattle.fal_story.proofs.Ranges.Bounds.{IsRecord}
 use Rattle.fal_story.proofs.Ranges.MessageRanges.{call_fits}
-use Rattle.fal_story.proofs.Ranges.NodeRanges.{LetterFits}
+use Rattle.fal_story.proofs.Ranges.NodeRanges.{LetterFits, letters_fit}
 use Rattle.fal_story.specs.Clusters.{IsCluster, IsCall, is_lane}
 use Rattle.fal_story.specs.World.{World}
 use Rattle.fal_story.proofs.View.{seat}
@@ -149,11 +150,12 @@ begun_keeps : (c : ClientState) (call : Call) → IsClient c → c.seq + 1 ≤ 1
 unfolding begun
 begun_keeps c call is below fits =
     let of_call = sent_fits (id_at c.lane (c.seq + 1) 1) c.table.version call (id_fits c.lane (c.seq + 1) is.lane_some is.lane_few (omega arith) below) is.version fits in
-    record { within = record { records = all_of_each LetterFits (begun c call).sent (of_call, tt); calls = omega arith; attempts = omega arith }; letters = (of_call, tt) }
+    let letters : Each LetterFits (begun c call).sent = ((of_call, λ n to. refl), tt) in
+    record { within = record { records = letters_fit (begun c call).sent letters; calls = omega arith; attempts = omega arith }; letters = letters }
 
 skipped_keeps : (c : ClientState) (fault : PathFault) → c.seq + 1 ≤ 10000 → KeepsRanges (skipped c fault)
 unfolding skipped
-skipped_keeps c fault below = record { within = record { records = All-nil LetterFits; calls = omega arith; attempts = omega arith }; letters = tt }
+skipped_keeps c fault below = record { within = record { records = All-nil (λ (l : Letter). Fits l.message); calls = omega arith; attempts = omega arith }; letters = tt }
 
 started_keeps : (c : ClientState) (call : Call) (fault : Option PathFault) → bad_path call.op ≡ fault → IsClient c → c.seq + 1 ≤ 10000 → IsCall call → KeepsRanges (started c call fault)
 unfolding started
@@ -178,11 +180,11 @@ unchanged_keeps : (c : ClientState) → IsClient c → KeepsRanges (unchanged c)
 unchanged_keeps c is =
     let seq = is.seq in
     let attempt = is.attempt in
-    record { within = record { records = All-nil LetterFits; calls = omega arith; attempts = omega arith }; letters = tt }
+    record { within = record { records = All-nil (λ (l : Letter). Fits l.message); calls = omega arith; attempts = omega arith }; letters = tt }
 
 replied_keeps : (c : ClientState) (point : ℕ) (reply : Reply) (listing : Option Listing) → IsClient c → KeepsRanges (replied c point reply listing)
 unfolding replied answered
-replied_keeps c point reply None is = let seq = is.seq in record { within = record { records = All-nil LetterFits; calls = omega arith; attempts = omega arith }; letters = tt }
+replied_keeps c point reply None is = let seq = is.seq in record { within = record { records = All-nil (λ (l : Letter). Fits l.message); calls = omega arith; attempts = omega arith }; letters = tt }
 replied_keeps c point reply (Some listing) is = unchanged_keeps c is
 
 heard_keeps : (c : ClientState) (point : ℕ) (id : CallId) (reply : Reply) (current : Option Current) → IsClient c → KeepsRanges (heard c point (Some (id, news.Replied reply)) current)

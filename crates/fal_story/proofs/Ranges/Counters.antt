@@ -1,6 +1,6 @@
 -- The counters of a waiting list, and what items have still to cancel.
 use Rattle.std.proofs.Common.{◌≡◌, inl, inr, ℕ, suc, ◌+◌, ◌<◌, ◌≤◌, ◌==◌, nat_lt, Bool, true, false, ◌&&◌, cond, List, [], ◌∷◌, ◌++◌, length, map, filter, Option, Some, None, refl, ap, arith}
-use Rattle.std.specs.List.{list_all}
+use Rattle.std.specs.List.{find, list_all}
 use Rattle.std.proofs.lemmas.Bool.Decides.{nat_tests}
 use Rattle.std.proofs.lemmas.List.{length-append, length-map}
 use Rattle.std.proofs.lemmas.Option.{same_Some}
@@ -9,7 +9,10 @@ use Rattle.fal_batch.proofs.Truth.{both_first, both_second}
 use Rattle.fal_batch.specs.declared.parts.Wanted.{Wanted}
 use Rattle.fal_node.specs.Deliver.{without_calls}
 use Rattle.fal_node.specs.declared.item.Item.{Item}
+use Rattle.fal_locks.specs.declared.holder.Shut.{Shut}
+use Rattle.fal_locks.specs.Locks.{unless_of}
 use Rattle.fal_node.specs.Gather.{with_fetches}
+use Rattle.fal_node.specs.State.{is_of}
 use Rattle.fal_wait.specs.declared.pending_fetch.PendingFetch.{PendingFetch}
 use Rattle.fal_wait.specs.declared.waiting_call.WaitingCall.{WaitingCall}
 use Rattle.fal_wait.specs.Lists.{without_first}
@@ -17,7 +20,7 @@ use Rattle.fal_wait.specs.Waiting.{are_rising, WaitList, waits_on, fetch_of, is_
 use Rattle.fal_story.proofs.Events.Shows.{IsTidy, IsTied}
 use Rattle.fal_story.proofs.Lists.Each.{Each, Apart, each_weaker}
 use Rattle.fal_story.proofs.Lists.Members.{IsIn, each_all, each_of_all}
-use Rattle.fal_story.proofs.Ranges.Bounds.{cancels, cancelling}
+use Rattle.fal_story.proofs.Ranges.Bounds.{cancels, cancelling, shut_count}
 use Rattle.fal_story.proofs.Ranges.Counts.{Differ, no_more}
 
 -- ---- no more fetches are pending than calls wait, and no more of these than tickets were given
@@ -134,8 +137,16 @@ pub cancelling_join : (xs ys : List Item) → cancelling (xs ++ ys) ≡ cancelli
 cancelling_join [] ys = omega arith
 cancelling_join (x ∷ xs) ys = let h = cancelling_join xs ys in omega arith
 
-pub cancelling_without : (test : Item → Bool) (xs : List Item) → cancelling (without_first test xs) ≤ cancelling xs
-cancelling_without test [] = omega arith
-cancelling_without test (x ∷ xs) =
-    let h = cancelling_without test xs in
-    elim (test x) as (λ b. cancelling (cond b xs (x ∷ without_first test xs)) ≤ cancels x.message + cancelling xs) [ true ↦ omega arith | false ↦ omega arith ]
+-- the item that is served is the one that goes
+pub cancelling_found : (test : Item → Bool) (xs : List Item) (item : Item) → find test xs ≡ Some item → cancelling (without_first test xs) + cancels item.message ≡ cancelling xs
+cancelling_found test [] item is = absurd (cc)
+cancelling_found test (x ∷ xs) item is =
+    elim (test x) as (λ b. cond b (Some x) (find test xs) ≡ Some item → cancelling (cond b xs (x ∷ without_first test xs)) + cancels item.message ≡ cancels x.message + cancelling xs) [
+      | true ↦ λ e. let same : cancels x.message ≡ cancels item.message = ap (λ (i : Item). cancels i.message) (same_Some x item e) in omega arith
+      | false ↦ λ e. let h = cancelling_found test xs item e in omega arith
+    ] is
+
+-- the operation that has the keys shut, and no more once they are opened
+pub opened_count : (shut : Option Shut) (operation : ℕ) → is_of shut operation ≡ true → (shut_count shut ≡ 1) × (shut_count (unless_of operation shut) ≡ 0)
+opened_count None operation is = absurd (cc)
+opened_count (Some shut) operation is = (refl, ap (λ b. shut_count (cond b None (Some shut))) is)

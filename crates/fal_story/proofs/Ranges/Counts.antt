@@ -1,5 +1,5 @@
 -- A run has no more commits than the cluster has calls, and a node no more waiting calls than there are lanes.
-use Rattle.std.proofs.Common.{◌≡◌, ◌≢◌, inl, inr, ⊎_elim, ℕ, zero, suc, ◌+◌, ◌<◌, ◌≤◌, false, List, [], ◌∷◌, ◌++◌, length, Some, None, refl, sym, ap, ◌∙◌, subst, arith}
+use Rattle.std.proofs.Common.{◌≡◌, ◌≢◌, inl, inr, ⊎_elim, ℕ, zero, suc, ◌+◌, ◌<◌, ◌≤◌, false, List, [], ◌∷◌, ◌++◌, length, Option, Some, None, refl, sym, ap, ◌∙◌, subst, arith}
 use Rattle.std.specs.Prelude.{slice_get, sum_by, ◌==◌, IsTrue}
 use Rattle.std.proofs.lemmas.Bool.Decides.{nat_tests}
 use Rattle.std.proofs.lemmas.List.{length-append}
@@ -8,14 +8,22 @@ use Rattle.fal_base.specs.declared.call.Call.{Call}
 use Rattle.fal_base.specs.declared.call.Config.{Config}
 use Rattle.fal_base.specs.declared.entry.Entry.{Entry}
 use Rattle.fal_base.specs.declared.entry.Entry.TheVariants as entry
+use Rattle.fal_base.specs.declared.row.Update.{Update}
 use Rattle.fal_base.specs.Commits.{Commit}
 use Rattle.fal_base.specs.EachOnce.{NotCommitted}
 use Rattle.fal_base.specs.Transcript.{numbered, lane_call, call_of, commit_by, commits_of}
+use Rattle.fal_locks.specs.declared.holder.Shut.{Shut}
+use Rattle.fal_place.specs.Placement.{Placement}
+use Rattle.fal_wire.specs.declared.message.Message.{Message}
 use Rattle.fal_story.proofs.Drain.Actors.{waiters_there}
+use Rattle.fal_story.proofs.Events.Doing.{work_of}
 use Rattle.fal_story.proofs.Events.Shows.{Ghost, Shows, lane_of}
+use Rattle.fal_story.proofs.Families.Operation.{Stands}
 use Rattle.fal_story.proofs.Lists.Each.{Each, each_weaker, each_both, each_join}
-use Rattle.fal_story.proofs.Lists.Members.{IsIn, in_front}
+use Rattle.fal_story.proofs.Lists.Members.{IsIn, at_in, each_by, in_front}
 use Rattle.fal_story.proofs.Lists.Grown.{tells}
+use Rattle.fal_story.proofs.Trees.Standing.{table_of}
+use Rattle.fal_story.proofs.View.{Work, Rests, Walks, Locks, Counts, Ends}
 use Rattle.fal_story.specs.Clusters.{IsCluster, is_lane}
 use Rattle.fal_story.specs.World.{World}
 
@@ -157,6 +165,68 @@ few_commits config w h cluster shows =
     let all = lanes_length 1 config.lanes in
     let few = cluster.few_calls in
     let same : length w.commits ≡ length (commits_of config w.entries) = ap length shows.good.script.joined.same in
+    omega arith
+
+-- ---- the operations of a run
+
+numbered_below : {A : Type 0} (xs : List A) (s k : ℕ) (x : A) → 0 < s → s ≤ k → numbered xs k ≡ Some x → (y : A) × (numbered xs s ≡ Some y)
+numbered_below xs s zero x some le is = absurd (cc)
+numbered_below xs zero (suc k) x some le is = absurd (omega arith)
+numbered_below [] (suc s) (suc k) x some le is = absurd (cc)
+numbered_below (y ∷ ys) (suc zero) (suc k) x some le is = (y, refl)
+numbered_below (y ∷ ys) (suc (suc s)) (suc zero) x some le is = absurd (omega arith)
+numbered_below (y ∷ ys) (suc (suc s)) (suc (suc k)) x some le is = numbered_below ys (suc s) (suc k) x (omega arith) (omega arith) is
+
+call_below : (calls : Option (List Call)) (s k : ℕ) (call : Call) → 0 < s → s ≤ k → lane_call calls k ≡ Some call → (other : Call) × (lane_call calls s ≡ Some other)
+call_below None s k call some le is = absurd (cc)
+call_below (Some calls) s k call some le is = numbered_below calls s k call some le is
+
+-- a lane that has sent a call has sent those before it
+sent_in : (config : Config) (lane s k : ℕ) (call : Call) → 0 < s → s ≤ k → call_of config lane k ≡ Some call → IsIn (lane, s) (lanes_from 1 config.lanes)
+sent_in config zero s k call some le is = absurd (cc)
+sent_in config (suc lane) s k call some le is =
+    let x = call_below (slice_get config.lanes lane) s k call some le is in
+    call_in config (suc lane) s x.0 x.1
+
+starts_differ : (starts : List (ℕ × ℕ)) → ((i j : ℕ) (x : ℕ × ℕ) → slice_get starts i ≡ Some x → slice_get starts j ≡ Some x → i ≡ j) → Differ (λ (x : ℕ × ℕ). x) starts
+starts_differ [] apart = tt
+starts_differ (x ∷ xs) apart = (
+  each_by _ xs (λ y among same.
+      let at = at_in xs y among in
+      let wrong : suc at.0 ≡ 0 = apart (suc at.0) 0 y at.1 (ap (λ (z : ℕ × ℕ). Some z) (sym same)) in
+      absurd (omega arith)),
+  starts_differ xs (λ i j y a b. let same : suc i ≡ suc j = apart (suc i) (suc j) y a b in omega arith),
+)
+
+-- each operation is of a call, and no two of one
+pub few_operations : (config : Config) (w : World) (h : Ghost) → IsCluster config → Shows config w h → w.coord.operation ≤ 10000
+few_operations config w h cluster shows =
+    let starts = shows.good.operation.starts in
+    let no_more_than = no_more (λ (x : ℕ × ℕ). x) h.starts (lanes_from 1 config.lanes) (starts_differ h.starts starts.apart)
+    (each_by _ h.starts (λ x among.
+    let at = at_in h.starts x among in
+    let sent = starts.sent at.0 x.0 x.1 at.1 in
+    let some = sent.0 in
+    let le = sent.1 in
+    sent_in config x.0 x.1 (w.clients x.0).seq _ some le (shows.good.script.calls.named x.0 (omega arith)))) in
+    let all = lanes_length 1 config.lanes in
+    let few = cluster.few_calls in
+    let count = starts.count in
+    omega arith
+
+-- a node knows of no later operation
+stands_last : (table : Placement) (operation : ℕ) (work : Work) (n : ℕ) (shut : Option Shut) (queued : Option Message) (last : ℕ) (due : List Update) → Stands table operation work n shut queued last due → last ≤ operation
+stands_last table operation Rests n shut queued last due h = h.3
+stands_last table operation (Walks lane) n shut queued last due h = let below = h.3 in omega arith
+stands_last table operation (Locks lane keys walks missing rows) n shut queued last due h =
+    ⊎_elim (λ x. ⊎_elim (λ y. let below = y.2 in omega arith) (λ y. let same = y.2 in omega arith) x.1) (λ x. let same = x.2 in omega arith) h.1
+stands_last table operation (Counts lane keys walks missing rows dir updates sum) n shut queued last due h = let same = h.1.2 in omega arith
+stands_last table operation (Ends keys updates missing) n shut queued last due h = ⊎_elim (λ x. let same = x.2.2 in omega arith) (λ x. let same = x.3 in omega arith) h
+
+pub few_taken : (config : Config) (w : World) (n : ℕ) (h : Ghost) → IsCluster config → n < config.nodes → Shows config w h → (w.nodes n).last_operation ≤ 10000
+few_taken config w n h cluster there shows =
+    let few = few_operations config w h cluster shows in
+    let last : (w.nodes n).last_operation ≤ w.coord.operation = stands_last (table_of config) w.coord.operation (work_of w.coord.stage) n (w.nodes n).locks.shut (h.queued n) (w.nodes n).last_operation (h.due n) (shows.good.operation.stands n there) in
     omega arith
 
 -- ---- the lanes of a cluster

@@ -31,7 +31,7 @@ use Rattle.fal_story.proofs.Ranges.RowRanges.{op_of_call}
 
 -- ---- the names of a call
 
-abbrev NamesFit : List (List ℕ) → Type 0
+abbrev pub NamesFit : List (List ℕ) → Type 0
 NamesFit names = Each name_field.Fits names
 
 items_fit : (last : Option (List ℕ)) (names : List (List ℕ)) → AreItems (λ _. name_field) last names → NamesFit names
@@ -42,7 +42,7 @@ path_names_fit : (names : List (List ℕ)) → path_field.Fits names → NamesFi
 unfolding path_field path_names
 path_names_fit names h = items_fit None names h.0.1.1
 
-path_fit : (path : PathArg) (names : List (List ℕ)) → good_names path ≡ Some names → path_arg_field.Fits path → NamesFit names
+pub path_fit : (path : PathArg) (names : List (List ℕ)) → good_names path ≡ Some names → path_arg_field.Fits path → NamesFit names
 unfolding path_arg_field
 path_fit (Good names) other is h = subst NamesFit (same_Some names other is) (path_names_fit names h)
 path_fit (Bad fault raw) other is h = absurd h

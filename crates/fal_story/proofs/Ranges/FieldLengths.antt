@@ -43,23 +43,23 @@ bytes_length : (n x : ℕ) → length (bytes_high_first n x) ≡ n
 bytes_length zero x = omega arith
 bytes_length (suc n) x = let h = bytes_length n x in omega arith
 
-byte_short : IsShort ℕ byte 1
+pub byte_short : IsShort ℕ byte 1
 byte_short = record { most_bytes = λ x fits. omega arith }
 
-number_short : (n : ℕ) → IsShort ℕ (number n) n
+pub number_short : (n : ℕ) → IsShort ℕ (number n) n
 unfolding number_spelling
 number_short n = record { most_bytes = λ x fits. let is = bytes_length n x in omega arith }
 
 text_short : IsShort (List ℕ) text 256
 text_short = record { most_bytes = λ x fits. omega arith }
 
-nothing_short : IsShort (Unit {0}) nothing 0
+pub nothing_short : IsShort (Unit {0}) nothing 0
 nothing_short = record { most_bytes = λ x fits. omega arith }
 
-judged_short : {A : Type 0} {f : Format A} {most : ℕ} (test : A → Bool) → IsShort A f most → IsShort A (judged f test) most
+pub judged_short : {A : Type 0} {f : Format A} {most : ℕ} (test : A → Bool) → IsShort A f most → IsShort A (judged f test) most
 judged_short test h = record { most_bytes = λ x fits. h.most_bytes x fits.0 }
 
-next_short : {A B : Type 0} {f : Format A} {m n : ℕ} (g : A → Format B) → IsShort A f m → ((a : A) → IsShort B (g a) n) → IsShort (A × B) (f ▷ g) (m + n)
+pub next_short : {A B : Type 0} {f : Format A} {m n : ℕ} (g : A → Format B) → IsShort A f m → ((a : A) → IsShort B (g a) n) → IsShort (A × B) (f ▷ g) (m + n)
 next_short {A} {B} {f} {m} {n} g h k = record {
   most_bytes = λ x fits.
       let a = h.most_bytes x.0 fits.0 in
@@ -68,10 +68,10 @@ next_short {A} {B} {f} {m} {n} g h k = record {
       omega arith;
 }
 
-both_short : {A B : Type 0} {f : Format A} {g : Format B} {m n : ℕ} → IsShort A f m → IsShort B g n → IsShort (A × B) (f ⊗ g) (m + n)
+pub both_short : {A B : Type 0} {f : Format A} {g : Format B} {m n : ℕ} → IsShort A f m → IsShort B g n → IsShort (A × B) (f ⊗ g) (m + n)
 both_short {A} {B} {f} {g} h k = next_short (λ _. g) h (λ _. k)
 
-shaped_short : {A B : Type 0} {f : Format B} {most : ℕ} (fields : A → B) (make : B → A) → IsShort B f most → IsShort A (shaped fields make f) most
+pub shaped_short : {A B : Type 0} {f : Format B} {most : ℕ} (fields : A → B) (make : B → A) → IsShort B f most → IsShort A (shaped fields make f) most
 shaped_short fields make h = record { most_bytes = λ x fits. h.most_bytes (fields x) fits }
 
 -- ---- the fields
@@ -120,7 +120,7 @@ key_name_short : (parent : ℕ) → IsShort (List ℕ) (key_name_field parent) 2
 unfolding key_name_field
 key_name_short parent = judged_short _ text_short
 
-key_short : IsShort Key key_field 264
+pub key_short : IsShort Key key_field 264
 unfolding key_field
 key_short = shaped_short _ _ (next_short key_name_field (number_short 8) key_name_short)
 
@@ -129,7 +129,7 @@ unfolding kind_field
 kind_most FileKind fits = omega arith
 kind_most DirKind fits = omega arith
 
-inode_short : IsShort Inode inode_field 27
+pub inode_short : IsShort Inode inode_field 27
 unfolding inode_field
 inode_short = shaped_short _ _ (both_short ino_short (both_short (record { most_bytes = kind_most }) (both_short mode_short (both_short (number_short 4) (both_short (number_short 4) size_short)))))
 

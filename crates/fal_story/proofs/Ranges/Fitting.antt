@@ -1,9 +1,9 @@
 -- Which operations a record can hold, by tests.
-use Rattle.std.proofs.Common.{◌≡◌, ◌↔◌, ℕ, ◌+◌, ◌<◌, ◌≤◌, ◌^◌, Bool, true, false, cond, ◌&&◌, List, [], ◌∷◌, length, Option, Some, None, Result, Err, refl, IsTrue, arith}
+use Rattle.std.proofs.Common.{◌≡◌, ◌↔◌, ℕ, ◌+◌, ◌<◌, ◌≤◌, ◌^◌, Bool, true, false, cond, ◌&&◌, List, [], ◌∷◌, length, Option, Some, None, Result, Err, refl, sym, ◌∙◌, IsTrue, arith}
 use Rattle.std.specs.Prelude.{is_ok, nat_le, nat_lt, ◌==◌}
 use Rattle.std.specs.List.{All, list_all}
 use Rattle.std.proofs.lemmas.Bool.Decides.{nat_tests}
-use Rattle.std.proofs.lemmas.List.Elements.{All-cons, All-head, All-nil}
+use Rattle.std.proofs.lemmas.List.Elements.{All-cons, All-head, All-nil, All-tail}
 use Rattle.std.proofs.lemmas.List.Sums.{sum_by-cons}
 use Rattle.fal_base.specs.declared.call.Call.{Call}
 use Rattle.fal_base.specs.declared.op.Op.{Op}
@@ -13,13 +13,14 @@ use Rattle.fal_base.specs.declared.path.PathArg.TheVariants.{Good, Bad}
 use Rattle.fal_base.specs.declared.path.PathFault.{PathFault}
 use Rattle.fal_base.specs.OpPaths.{bad_path, fault_of, paths_of}
 use Rattle.fal_base.specs.PathArgs.{IsRead}
+use Rattle.fal_story.specs.Held.{ArePathsHeld}
 use Rattle.fal_story.specs.Clusters.{IsCall, IsCallInRange, IsOpInRange, IsPathInRange, is_served}
 use Rattle.fal_wire.specs.Format.{AreItems}
 use Rattle.fal_base.specs.Names.{is_name}
 use Rattle.fal_base.specs.Paths.{path_bytes}
 use Rattle.fal_wire.specs.Names.{name_field, path_names, path_field, path_arg_field}
 use Rattle.fal_wire.specs.Numbers.{cred_field, mode_field, want_field, size_field}
-use Rattle.fal_wire.specs.Ops.{path_and_mode, path_and_want, path_and_size, op_field}
+use Rattle.fal_wire.specs.Ops.{path_and_mode, path_and_want, path_and_owner, path_and_size, two_paths, op_field}
 
 -- ---- names
 
@@ -121,6 +122,42 @@ pub unlink_is : (path : PathArg) → IsHeld path true ↔ CanServe (op.Unlink pa
 unfolding bad_path op_field
 unlink_is path = (λ h. (refl, one_read path h.0, λ good. (h.1 good).0), λ h. (All-head IsRead path [] h.1, λ good. (h.2 good, refl)))
 
+pub rmdir_is : (path : PathArg) → IsHeld path true ↔ CanServe (op.Rmdir path)
+unfolding bad_path op_field
+rmdir_is path = (λ h. (refl, one_read path h.0, λ good. (h.1 good).0), λ h. (All-head IsRead path [] h.1, λ good. (h.2 good, refl)))
+
+pub chmod_is : (path : PathArg) (mode : ℕ) → IsHeld path (nat_lt mode 512) ↔ CanServe (op.Chmod path mode)
+unfolding bad_path op_field path_and_mode mode_field
+chmod_is path mode = (
+  λ h. (refl, one_read path h.0, λ good. let p = h.1 good in (p.0, (grind (arith, nat_tests), p.1))),
+  λ h. (All-head IsRead path [] h.1, λ good. let p = h.2 good in (p.0, p.1.1)),
+)
+
+-- the numbers of a user and of a group are as wide as their fields
+pub chown_is : (path : PathArg) (uid gid : ℕ) → uid < 2 ^ 32 → gid < 2 ^ 32 → IsHeld path true ↔ CanServe (op.Chown path uid gid)
+unfolding bad_path op_field path_and_owner
+chown_is path uid gid user group =
+    let of_user : uid < 256 ^ 4 = omega arith in
+    let of_group : gid < 256 ^ 4 = omega arith in (
+      λ h. (refl, one_read path h.0, λ good. ((h.1 good).0, (of_user, of_group))),
+      λ h. (All-head IsRead path [] h.1, λ good. ((h.2 good).0, refl)),
+    )
+
+pub good_paths_held : (old new : List (List ℕ)) → ArePathsHeld (Good old) (Good new) ↔ (path_field.Fits old × path_field.Fits new)
+unfolding bad_path path_arg_field
+good_paths_held old new = (λ h. h.2 refl, λ h. (tt, tt, λ good. h))
+
+-- where one of the two paths is bad
+pub bad_paths_held : (old new : PathArg) (fault : PathFault) → bad_path (op.Rename old new) ≡ Some fault → ArePathsHeld old new ↔ (IsRead old × IsRead new)
+bad_paths_held old new fault bad = (λ h. (h.0, h.1), λ h. (h.0, h.1, λ good. let wrong : ◌≡◌ {A = Option PathFault} (Some fault) None = sym bad ∙ good in absurd cc))
+
+pub rename_is : (old new : PathArg) → ArePathsHeld old new ↔ CanServe (op.Rename old new)
+unfolding op_field two_paths
+rename_is old new = (
+  λ h. (refl, All-cons IsRead old (new ∷ []) h.0 (one_read new h.1), h.2),
+  λ h. (All-head IsRead old (new ∷ []) h.1, All-head IsRead new [] (All-tail IsRead old (new ∷ []) h.1), h.2),
+)
+
 -- one thing as good as another, which is as good as a third
 pub as_good : {A B C : Type 0} → A ↔ B → B ↔ C → A ↔ C
 as_good f g = (λ a. g.0 (f.0 a), λ c. f.1 (g.1 c))
@@ -134,6 +171,14 @@ held_in_range : (path : PathArg) (rest : Bool) → IsPathInRange path → rest �
 held_in_range (Good names) rest is passed = (good_held names rest).1 (path_fits names (at_most (path_bytes names) 4095 is.1) is.0, passed)
 held_in_range (Bad fault raw) rest is passed = bad_held fault raw rest is
 
+paths_in_range : (old new : PathArg) → IsPathInRange old → IsPathInRange new → ArePathsHeld old new
+unfolding bad_path
+paths_in_range (Good old) (Good new) of_old of_new =
+    (good_paths_held old new).1 (path_fits old (at_most (path_bytes old) 4095 of_old.1) of_old.0, path_fits new (at_most (path_bytes new) 4095 of_new.1) of_new.0)
+paths_in_range (Good old) (Bad fault raw) of_old of_new = (bad_paths_held (Good old) (Bad fault raw) fault refl).1 (tt, of_new)
+paths_in_range (Bad fault raw) (Good new) of_old of_new = (bad_paths_held (Bad fault raw) (Good new) fault refl).1 (of_old, tt)
+paths_in_range (Bad fault raw) (Bad other bytes) of_old of_new = (bad_paths_held (Bad fault raw) (Bad other bytes) fault refl).1 (of_old, of_new)
+
 low : (n most : ℕ) → n < most → nat_lt n most ≡ true
 low n most less = grind (arith, nat_tests)
 
@@ -144,6 +189,10 @@ served_in_range (op.Stat path) is = (stat_is path).0 (held_in_range path true is
 served_in_range (op.Access path want) is = (access_is path want).0 (held_in_range path (nat_lt want 8) is.0 (low want 8 is.1))
 served_in_range (op.Truncate path size) is = (truncate_is path size).0 (held_in_range path (nat_lt size (2 ^ 63)) is.0 (low size (2 ^ 63) is.1))
 served_in_range (op.Unlink path) is = (unlink_is path).0 (held_in_range path true is refl)
+served_in_range (op.Chmod path mode) is = (chmod_is path mode).0 (held_in_range path (nat_lt mode 512) is.0 (low mode 512 is.1))
+served_in_range (op.Chown path uid gid) is = (chown_is path uid gid is.1 is.2).0 (held_in_range path true is.0 refl)
+served_in_range (op.Rmdir path) is = (rmdir_is path).0 (held_in_range path true is refl)
+served_in_range (op.Rename old new) is = (rename_is old new).0 (paths_in_range old new is.0 is.1)
 served_in_range other is = absurd is
 
 pub call_in_range : (call : Call) → IsCallInRange call → IsCall call

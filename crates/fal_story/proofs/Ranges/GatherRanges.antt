@@ -1,5 +1,5 @@
 -- A node that gathers its free calls keeps to the ranges.
-use Rattle.std.proofs.Common.{◌≡◌, ℕ, suc, ◌+◌, ◌<◌, ◌≤◌, ◌^◌, nat_lt, Bool, true, false, cond, List, [], ◌∷◌, ◌++◌, length, filter, Option, Some, None, is_none, refl, ap, subst, ◌∙◌, arith}
+use Rattle.std.proofs.Common.{◌≡◌, ℕ, suc, ◌+◌, ◌<◌, ◌≤◌, ◌^◌, nat_lt, true, false, cond, List, [], ◌∷◌, ◌++◌, length, filter, Option, Some, None, is_none, refl, ap, subst, ◌∙◌, arith}
 use Rattle.std.specs.List.{filter_map, cons_option}
 use Rattle.std.specs.Option.{option_map}
 use Rattle.std.proofs.lemmas.Bool.Decides.{nat_tests}
@@ -25,20 +25,16 @@ use Rattle.fal_place.specs.Placement.{opening_table}
 use Rattle.fal_wait.specs.declared.waiting_call.WaitingCall.{WaitingCall}
 use Rattle.fal_wait.specs.Waiting.{WaitList, free_tickets, call_with_ticket}
 use Rattle.fal_wire.specs.Names.{key_field}
-use Rattle.fal_wire.specs.Ops.{call_field}
 use Rattle.fal_story.proofs.Lists.Each.{Each, each_join, each_both}
-use Rattle.fal_story.proofs.Ranges.Bounds.{IsNodeRanged, IsNodeCounted}
+use Rattle.fal_story.proofs.Ranges.Bounds.{CallFits, IsNodeRanged, IsNodeCounted}
 use Rattle.fal_story.proofs.Ranges.Counters.{withouts_same, opens_count}
 use Rattle.fal_story.proofs.Ranges.FateRanges.{FateFits, IsHere, fate_fits}
 use Rattle.fal_story.proofs.Ranges.MessageRanges.{ask_fits, asker_fits}
 use Rattle.fal_story.proofs.Ranges.NodeRanges.{IsStart, KeepsRanges, LetterFits, within, counted_more}
+use Rattle.fal_story.proofs.Ranges.RowCounts.{fewer_kept}
 use Rattle.fal_story.proofs.Ranges.WaitRanges.{WaitersFit, fit_withouts, fit_opens, waiter_of, waiter_has}
 
 -- ---- the free calls
-
-fewer_kept : {A : Type 0} (p : A → Bool) (xs : List A) → length (filter p xs) ≤ length xs
-fewer_kept p [] = omega arith
-fewer_kept p (x ∷ xs) = let h = fewer_kept p xs in elim (p x) as (λ b. length (cond b (x ∷ filter p xs) (filter p xs)) ≤ suc (length xs)) [ true ↦ omega arith | false ↦ omega arith ]
 
 fewer_mapped : {A B : Type 0} (f : A → Option B) (xs : List A) → length (filter_map f xs) ≤ length xs
 fewer_mapped {A} {B} f [] = omega arith
@@ -139,37 +135,39 @@ gather_fit : (x : NodeState) (number : ℕ) (sends : List Sending) → x.number 
 gather_fit x number [] small below fits = tt
 gather_fit x number (sending.Away away ∷ sends) small below fits = absurd fits.0
 gather_fit x number (sending.Fetch key ∷ sends) small below fits =
-    (ask_fits x.number number key (asker_fits x.number small) (omega arith) fits.0, gather_fit x (number + 1) sends small (omega arith) fits.1)
+    ((ask_fits x.number number key (asker_fits x.number small) (omega arith) fits.0, tt), gather_fit x (number + 1) sends small (omega arith) fits.1)
 
 -- ---- the batch
 
 batch_calls_fit : (list : WaitList) (plans : List Planned) → WaitersFit list
-    → (length (batch_calls list plans) ≤ length plans) × Each (λ (p : BatchCall). call_field.Fits p.call) (batch_calls list plans)
+    → (length (batch_calls list plans) ≤ length plans) × Each (λ (p : BatchCall). CallFits p.call) (batch_calls list plans)
 batch_calls_fit list [] fits = (omega arith, tt)
 batch_calls_fit list (p ∷ plans) fits =
     let rest = batch_calls_fit list plans fits in
     let short = rest.0 in
     elim (call_with_ticket list p.ticket) as (λ o. call_with_ticket list p.ticket ≡ o
-    → (length (batch_call o p ++ batch_calls list plans) ≤ suc (length plans)) × Each (λ (q : BatchCall). call_field.Fits q.call) (batch_call o p ++ batch_calls list plans)) [
+    → (length (batch_call o p ++ batch_calls list plans) ≤ suc (length plans)) × Each (λ (q : BatchCall). CallFits q.call) (batch_call o p ++ batch_calls list plans)) [
       | None ↦ λ _. (omega arith, rest.1)
       | Some call ↦ λ is. (omega arith, (waiter_of list p.ticket call is fits, rest.1))
     ] refl
 
 batch_keeps : (events : ℕ) (x : NodeState) (calls : List BatchCall) (keys : List Key) (sent : List Letter) → events < 2 ^ 63 → IsNodeRanged x → IsNodeCounted events x → x.waiting.opened ≤ events + 160016
-    → x.number < 16 → x.drawn ≤ 10000 → length calls ≤ 64 → Each (λ (p : BatchCall). call_field.Fits p.call) calls → Each LetterFits sent
+    → x.number < 16 → x.drawn ≤ 10000 → length calls ≤ 64 → Each (λ (p : BatchCall). CallFits p.call) calls → Each LetterFits sent
     → KeepsRanges events (record { node = with_batch x calls keys; sent = sent; notes = [] })
 unfolding batched
 batch_keeps events x [] keys sent few ranged counted opened number drawn short fit letters =
     let more = counted_more events x counted in
-    record { within = within events (record { node = x; sent = sent; notes = [] }) few more letters opened number (omega arith) (omega arith); ranged = ranged; counted = more }
+    record { within = within events (record { node = x; sent = sent; notes = [] }) few more letters opened number (omega arith) (omega arith); letters = letters; ranged = ranged; counted = more }
 batch_keeps events x (call ∷ calls) keys sent few ranged counted opened number drawn short fit letters =
     let more = counted_more events x counted in
     let batches = counted.batches in
-    let now : IsNodeCounted (events + 1) (batched x (call ∷ calls) keys) = record { tickets = more.tickets; items = more.items; batches = omega arith; operation = more.operation; fetches = more.fetches } in
+    let now : IsNodeCounted (events + 1) (batched x (call ∷ calls) keys) = record { tickets = more.tickets; items = more.items; batches = omega arith; fetches = more.fetches; rows = more.rows } in
     record {
       within = within events (record { node = batched x (call ∷ calls) keys; sent = sent; notes = [] }) few now letters opened number (omega arith) (omega arith);
+      letters = letters;
       ranged = record {
         rows = ranged.rows;
+        sorted = ranged.sorted;
         replica = ranged.replica;
         waiting = ranged.waiting;
         items = ranged.items;
@@ -194,8 +192,8 @@ gathered_keeps events nodes x start table here =
     let waiting_few = start.calls in
     let ranged = start.ranged in
     let s = setting_at x in
-    let fits = each_both (λ (w : WaitingCall). call_field.Fits w.call) (λ (w : WaitingCall). IsHere x.table x.number w.call) (λ (w : WaitingCall). FateFits (fate s w.call)) x.waiting.calls
-    (λ w fits at. fate_fits s nodes w.call table ranged.replica at fits) ranged.waiting here in
+    let fits = each_both (λ (w : WaitingCall). CallFits w.call) (λ (w : WaitingCall). IsHere x.table x.number w.call) (λ (w : WaitingCall). FateFits (fate s w.call)) x.waiting.calls
+    (λ w fits at. fate_fits s nodes w.call table ranged.replica at fits.0) ranged.waiting here in
     let free = few_free x.waiting in
     let plan = plan_of s x.waiting in
     let is = calls_is_plan s no_plan (free_calls x.waiting) 0 (each_free (λ c. FateFits (fate s c)) x.waiting fits) (record { sends = tt; few_sends = omega arith; few_fetches = omega arith; few_calls = omega arith }) in
@@ -219,12 +217,13 @@ gathered_keeps events nodes x start table here =
     batch_keeps events y (batch_calls x.waiting plan.calls) plan.keys (gather_letters x x.waiting.opened plan.sends) few
     (record {
       rows = ranged.rows;
+      sorted = ranged.sorted;
       replica = ranged.replica;
       waiting = fit_withouts (with_fetches x.waiting plan.fetches) (leaving plan) (fit_opens x.waiting plan.fetches ranged.waiting);
       items = ranged.items;
       batches = ranged.batches;
     })
-    (record { tickets = omega arith; items = counted.items; batches = counted.batches; operation = counted.operation; fetches = omega arith })
+    (record { tickets = omega arith; items = counted.items; batches = counted.batches; fetches = omega arith; rows = counted.rows })
     (omega arith) small start.drawn (omega arith) calls.1
     (gather_fit x x.waiting.opened plan.sends small (omega arith) is.sends)
 

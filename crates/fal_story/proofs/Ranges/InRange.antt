@@ -12,6 +12,7 @@ use Rattle.fal_client.specs.declared.event.ClientEvent.TheVariants as client
 use Rattle.fal_client.specs.Paths.{addressee}
 use Rattle.fal_client.specs.State.{Work as ClientWork}
 use Rattle.fal_client.specs.Step.{IsInRange, client_step}
+use Rattle.fal_coord.specs.State.{CoordState}
 use Rattle.fal_node.specs.declared.batch.Batch.{Batch}
 use Rattle.fal_run.specs.declared.call.BatchCall.{BatchCall}
 use Rattle.fal_node.specs.declared.event.NodeEvent.{NodeEvent}
@@ -23,14 +24,14 @@ use Rattle.fal_node.specs.Step.{IsWithin, node_step}
 use Rattle.fal_place.specs.Placement.{route}
 use Rattle.fal_story.proofs.Events.Shows.{Ghost, Shows, WaitsAt, PlannedAt, lane_of, planned_lane, pending_calls, calls_in}
 use Rattle.fal_story.proofs.Lists.Each.{Each, each_weaker, each_join, each_front, each_back}
-use Rattle.fal_story.proofs.Lists.EachAll.{each_of_std}
 use Rattle.fal_story.proofs.Lists.Grown.{put_all}
 use Rattle.fal_story.proofs.Lists.Members.{each_in, in_at}
 use Rattle.fal_story.proofs.Phase.{Idle, Plans, IsFor}
 use Rattle.fal_story.proofs.Ranges.Bounds.{IsRanged, IsNodeRanged, IsNodeCounted, IsRecord, Comes, ComesToClient}
 use Rattle.fal_story.proofs.Ranges.ClientRanges.{IsClient, client_of, send_keeps, get_keeps}
+use Rattle.fal_story.proofs.Ranges.CoordBounds.{IsCoordRanged}
 use Rattle.fal_story.proofs.Ranges.Counters.{few_fetches, few_calls}
-use Rattle.fal_story.proofs.Ranges.Counts.{few_commits, few_waiting}
+use Rattle.fal_story.proofs.Ranges.Counts.{few_commits, few_taken, few_waiting}
 use Rattle.fal_story.proofs.Ranges.DeliverRanges.{deliver_keeps}
 use Rattle.fal_story.proofs.Ranges.ExecRanges.{AreServed, exec_keeps}
 use Rattle.fal_story.proofs.Ranges.FateRanges.{sent_here}
@@ -44,10 +45,14 @@ use Rattle.fal_story.specs.World.{World, put, posted, envelopes_of}
 -- ---- the world after an event whose records fit
 
 -- what an actor sent, as it goes out
-letters_recorded : (from : Actor) (event commits : ℕ) (letters : List Letter) → Each LetterFits letters → Each IsRecord (envelopes_of from event commits (map output_of letters))
+pub letters_recorded : (from : Actor) (event commits : ℕ) (letters : List Letter) → Each LetterFits letters → Each IsRecord (envelopes_of from event commits (map output_of letters))
 unfolding output_of
 letters_recorded from event commits [] fit = tt
-letters_recorded from event commits (letter ∷ letters) fit = ((letter.message, fit.0, refl), letters_recorded from event commits letters fit.1)
+letters_recorded from event commits (letter ∷ letters) fit = ((letter.message, fit.0.0, refl, fit.0.1), letters_recorded from event commits letters fit.1)
+
+-- one more event, which is of another actor
+coord_more : (events : ℕ) (c : CoordState) → IsCoordRanged events c → IsCoordRanged (events + 1) c
+coord_more events c ranged = let asked = ranged.asked in record { waiting = ranged.waiting; replica = ranged.replica; stage = ranged.stage; asked = omega arith }
 
 node_posts : (config : Config) (w : World) (n : ℕ) (work : Work) → IsRanged w → KeepsRanges w.events work
     → IsRanged (posted config (record w { nodes = put w.nodes n work.node }) (Node n) (map output_of work.sent) work.notes)
@@ -55,8 +60,8 @@ unfolding posted
 node_posts config w n work ranged keeps = record {
   nodes = put_all (λ m x. IsNodeRanged x) w.nodes n work.node keeps.ranged (λ m _. ranged.nodes m);
   counted = put_all (λ m x. IsNodeCounted (w.events + 1) x) w.nodes n work.node keeps.counted (λ m _. counted_more w.events (w.nodes m) (ranged.counted m));
-  envelopes = each_join IsRecord w.envelopes _ ranged.envelopes
-      (letters_recorded (Node n) w.events (length w.commits) work.sent (each_of_std LetterFits work.sent keeps.within.records));
+  coord = coord_more w.events w.coord ranged.coord;
+  envelopes = each_join IsRecord w.envelopes _ ranged.envelopes (letters_recorded (Node n) w.events (length w.commits) work.sent keeps.letters);
 }
 
 client_posts : (config : Config) (w : World) (l : ℕ) (move : ClientWork) → IsRanged w → Each LetterFits move.sent
@@ -65,6 +70,7 @@ unfolding posted
 client_posts config w l move ranged fit = record {
   nodes = ranged.nodes;
   counted = λ m. counted_more w.events (w.nodes m) (ranged.counted m);
+  coord = coord_more w.events w.coord ranged.coord;
   envelopes = each_join IsRecord w.envelopes _ ranged.envelopes (letters_recorded (Client l) w.events (length w.commits) move.sent fit);
 }
 
@@ -82,7 +88,7 @@ start_of config w n h cluster there few shows ranged =
     let counted = ranged.counted n in
     let tickets = counted.tickets in
     let fetches = counted.fetches in
-    let operation = counted.operation in
+    let operation = few_taken config w n h cluster there shows in
     let pending = few_fetches (w.nodes n).waiting placed.tidy in
     let waiting = few_calls (w.nodes n).waiting placed.tidy in
     let by_lanes = few_waiting config w n h shows in
@@ -96,6 +102,8 @@ start_of config w n h cluster there few shows ranged =
       drawn = omega arith;
       opened = omega arith;
       calls = omega arith;
+      pending = omega arith;
+      operation = operation;
     }
 
 -- each call that waits was sent to this node by its path

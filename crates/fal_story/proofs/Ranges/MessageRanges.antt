@@ -54,6 +54,11 @@ pub asker_fits : (node : ℕ) → node < 16 → asker_field.Fits node
 unfolding asker_field
 asker_fits node small = (omega arith, let is : nat_lt node 16 ≡ true = grind (arith, nat_tests) in ap (λ b. b || (node == 255)) is)
 
+-- and so may the coordinator
+pub coord_asks : asker_field.Fits 255
+unfolding asker_field
+coord_asks = (omega arith, refl)
+
 -- ---- and their fields then are
 
 pub call_of_record : (call : CallRec) → Fits (message.Call call) → call_field.Fits call

@@ -1,36 +1,45 @@
 -- A node that serves an item or releases a batch keeps to the ranges.
-use Rattle.std.proofs.Common.{◌≡◌, ℕ, ◌+◌, ◌<◌, ◌≤◌, ◌^◌, true, false, cond, length, Option, Some, None, refl, sym, subst, arith}
+use Rattle.std.proofs.Common.{◌≡◌, ℕ, ◌+◌, ◌<◌, ◌≤◌, ◌^◌, true, false, cond, List, [], ◌∷◌, length, Option, Some, None, refl, sym, subst, arith}
 use Rattle.std.specs.Prelude.{◌==◌}
+use Rattle.std.specs.List.{All}
 use Rattle.std.proofs.lemmas.Option.{same_Some}
 use Rattle.fal_base.specs.declared.event.Actor.TheVariants.{Node}
 use Rattle.fal_base.specs.declared.event.Point.TheVariants.{Here}
 use Rattle.fal_base.specs.declared.key.Key.{Key}
 use Rattle.fal_base.specs.Tree.{row_at}
-use Rattle.fal_duty.specs.Duties.{fetched_of, found_of}
+use Rattle.fal_duty.specs.Duties.{fetched_of, found_of, rows_of}
 use Rattle.fal_node.specs.declared.batch.Batch.{Batch}
 use Rattle.fal_node.specs.declared.event.NodeEvent.TheVariants.{Release, Serve}
 use Rattle.fal_node.specs.declared.item.Item.{Item}
 use Rattle.fal_wire.specs.declared.letter.Letter.{Letter}
 use Rattle.fal_node.specs.Letters.{Work, begun, asker_of}
 use Rattle.fal_run.specs.Letters.{commits_in}
-use Rattle.fal_node.specs.Serve.{owns, can_serve, fetch_letter, served, serve}
-use Rattle.fal_story.proofs.Events.Enabled.{served_letters, only_sends, served_is}
+use Rattle.fal_node.specs.Serve.{owns, can_serve, fetch_letter, fetch_service, lock_service, service_of, served_as, shutting, served, serve}
 use Rattle.fal_node.specs.State.{NodeState, batch_of, item_of, without_item, released}
 use Rattle.fal_node.specs.Step.{IsWithin, node_step, release, only_if}
 use Rattle.fal_place.specs.Placement.{owner}
+use Rattle.fal_wait.specs.Lists.{without_first}
 use Rattle.fal_wire.specs.declared.message.Message.{Message}
 use Rattle.fal_wire.specs.declared.message.Message.TheVariants as message
 use Rattle.fal_wire.specs.Messages.{Fits, FieldsFit}
 use Rattle.fal_wire.specs.Letters.{letter}
-use Rattle.fal_story.proofs.Lists.Each.{Each}
+use Rattle.fal_story.proofs.Lists.Each.{Each, each_weaker}
 use Rattle.fal_story.proofs.Lists.EachAll.{all_of_each}
-use Rattle.fal_story.proofs.Lists.Members.{each_in, find_in, each_without_first}
-use Rattle.fal_story.proofs.Ranges.Bounds.{IsNodeRanged, IsNodeCounted}
-use Rattle.fal_story.proofs.Ranges.Counters.{cancelling_without}
+use Rattle.fal_story.proofs.Lists.Members.{each_in, find_in, same_number, each_without_first}
+use Rattle.fal_story.proofs.Ranges.Bounds.{IsNodeRanged, IsNodeCounted, IsFirst, cancels, cancelling}
+use Rattle.fal_story.proofs.Ranges.CoordWalks.{without_ranged}
+use Rattle.fal_story.proofs.Ranges.Counters.{cancelling_found}
 use Rattle.fal_story.proofs.Ranges.MessageRanges.{ask_fits, got_fits, ask_fields, found_fits}
+use Rattle.fal_story.proofs.Ranges.OperationRecords.{keys_are, lock_fields, locked_fits, node_fits, updates_fit}
+use Rattle.fal_story.proofs.Ranges.RowCounts.{few_told, rows_told}
+use Rattle.fal_story.proofs.Ranges.WaitRanges.{fit_cancel}
 
+-- the record can be spelled, and where it is a call to a node no one has passed it on
 abbrev pub LetterFits : Letter → Type 0
-LetterFits letter = Fits letter.message
+LetterFits letter = Fits letter.message × IsFirst letter.message letter.to
+
+pub letters_fit : (letters : List Letter) → Each LetterFits letters → All (λ letter. Fits letter.message) letters
+letters_fit letters fits = all_of_each (λ (l : Letter). Fits l.message) letters (each_weaker LetterFits (λ (l : Letter). Fits l.message) letters (λ l h. h.0) fits)
 
 -- what is known of a node before a step, after so many events of the cluster: at most 10,000 operations cancelled 16 fetches each
 pub record IsStart (events : ℕ) (x : NodeState) : Type 0 where
@@ -42,10 +51,13 @@ pub record IsStart (events : ℕ) (x : NodeState) : Type 0 where
   pub drawn : x.drawn ≤ 10000
   pub opened : x.waiting.opened ≤ events + 160000
   pub calls : length x.waiting.calls ≤ 16
+  pub pending : length x.waiting.fetches ≤ 16
+  pub operation : x.last_operation ≤ 10000
 
 -- the step after so many events is within the ranges, and leaves the node so
 pub record KeepsRanges (events : ℕ) (work : Work) : Type 0 where
   pub within : IsWithin work
+  pub letters : Each LetterFits work.sent
   pub ranged : IsNodeRanged work.node
   pub counted : IsNodeCounted (events + 1) work.node
 
@@ -56,7 +68,7 @@ within events work few counted letters opened number drawn commits =
     let items = counted.items in
     let batches = counted.batches in
     record {
-      records = all_of_each LetterFits work.sent letters;
+      records = letters_fit work.sent letters;
       tickets = omega arith;
       fetches = omega arith;
       items = omega arith;
@@ -71,7 +83,7 @@ counted_more events x counted =
     let items = counted.items in
     let batches = counted.batches in
     let fetches = counted.fetches in
-    record { tickets = omega arith; items = omega arith; batches = omega arith; operation = counted.operation; fetches = omega arith }
+    record { tickets = omega arith; items = omega arith; batches = omega arith; fetches = omega arith; rows = counted.rows }
 
 -- nothing changes
 pub keeps_same : (events : ℕ) (x : NodeState) → IsStart events x → KeepsRanges events (begun x)
@@ -82,6 +94,7 @@ keeps_same events x start =
     let more = counted_more events x start.counted in
     record {
       within = within events (begun x) few more tt (omega arith) start.number (omega arith) (omega arith);
+      letters = tt;
       ranged = start.ranged;
       counted = more;
     }
@@ -92,44 +105,101 @@ fetch_letter_fits : (x : NodeState) (asker number : ℕ) (key : Key) → IsNodeR
 fetch_letter_fits x asker number key ranged fits =
     let fields = ask_fields asker number key fits in
     elim (owns x key) as (λ b. LetterFits (cond b (letter (asker_of asker) (Here 0) (fetched_of x.rows number key)) (letter (Node (owner x.table key)) (Here 0) (message.FetchAsk asker number key)))) [
-      | true ↦ got_fits number key (found_of (row_at x.rows key)) fields.number_in_range fields.key_in_range (found_fits (row_at x.rows key) (ranged.rows key))
-      | false ↦ ask_fits asker number key fields.asker_in_range fields.number_in_range fields.key_in_range
+      | true ↦ (got_fits number key (found_of (row_at x.rows key)) fields.number_in_range fields.key_in_range (found_fits (row_at x.rows key) (ranged.rows key)), tt)
+      | false ↦ (ask_fits asker number key fields.asker_in_range fields.number_in_range fields.key_in_range, tt)
     ]
 
-served_fit : (x : NodeState) (m : Message) → IsNodeRanged x → FieldsFit m → Each LetterFits (served_letters x m)
-served_fit x (message.FetchAsk asker number key) ranged fits = (fetch_letter_fits x asker number key ranged fits, tt)
-served_fit x other ranged fits = tt
+-- the item that is served is the one that goes
+abbrev IsGone : NodeState → ℕ → Message → Type 0
+IsGone x number m = cancelling (without_first (λ (i : Item). i.number == number) x.items) + cancels m ≡ cancelling x.items
 
-served_keeps : (events : ℕ) (x : NodeState) (item : Item) → IsStart events x → FieldsFit item.message → KeepsRanges events (served x item)
+fetch_keeps : (events : ℕ) (x : NodeState) (number asker fetch : ℕ) (key : Key) → IsStart events x → FieldsFit (message.FetchAsk asker fetch key) → IsGone x number (message.FetchAsk asker fetch key)
+    → KeepsRanges events (served_as (fetch_service x asker fetch key) number)
 unfolding without_item
-served_keeps events x item start fits =
+fetch_keeps events x number asker fetch key start fits gone =
     let few = start.few in
     let drawn = start.drawn in
     let opened = start.opened in
     let ranged = start.ranged in
     let more = counted_more events x start.counted in
-    let left = cancelling_without (λ (i : Item). i.number == item.number) x.items in
     let fetches = more.fetches in
-    let now : IsNodeCounted (events + 1) (without_item x item.number) = record { tickets = more.tickets; items = more.items; batches = more.batches; operation = more.operation; fetches = omega arith } in
-    subst (KeepsRanges events) (sym (served_is x item)) (record {
-      within = within events (only_sends x item) few now (served_fit x item.message ranged fits) (omega arith) start.number (omega arith) (omega arith);
-      ranged = record { rows = ranged.rows; replica = ranged.replica; waiting = ranged.waiting; items = each_without_first _ _ x.items ranged.items; batches = ranged.batches };
+    let rows = more.rows in
+    let letters : Each LetterFits (fetch_letter x asker fetch key ∷ []) = (fetch_letter_fits x asker fetch key ranged fits, tt) in
+    let work = served_as (fetch_service x asker fetch key) number in
+    let now : IsNodeCounted (events + 1) (without_item x number) = record { tickets = more.tickets; items = more.items; batches = more.batches; fetches = omega arith; rows = omega arith } in
+    record {
+      within = within events work few now letters (omega arith) start.number (omega arith) (omega arith);
+      letters = letters;
+      ranged = record {
+        rows = ranged.rows;
+        sorted = ranged.sorted;
+        replica = ranged.replica;
+        waiting = ranged.waiting;
+        items = each_without_first _ _ x.items ranged.items;
+        batches = ranged.batches;
+      };
       counted = now;
-    })
+    }
 
-serve_found : (events : ℕ) (x : NodeState) (item : Option Item) (work : Work) → IsStart events x → ((i : Item) → item ≡ Some i → FieldsFit i.message) → serve x item ≡ Some work → KeepsRanges events work
+lock_keeps : (events : ℕ) (x : NodeState) (number operation : ℕ) (keys : List Key) → IsStart events x → FieldsFit (message.Lock operation keys) → IsGone x number (message.Lock operation keys)
+    → KeepsRanges events (served_as (lock_service x operation keys) number)
+unfolding without_item shutting
+lock_keeps events x number operation keys start fits gone =
+    let few = start.few in
+    let drawn = start.drawn in
+    let opened = start.opened in
+    let pending = start.pending in
+    let ranged = start.ranged in
+    let more = counted_more events x start.counted in
+    let fetches = more.fetches in
+    let rows = more.rows in
+    let fields = lock_fields operation keys fits in
+    let are = keys_are keys fields.1 in
+    let few_keys = are.few in
+    let few_rows = few_told x.table x.rows x.number keys in
+    let told = updates_fit (rows_of x.table x.rows x.number keys) (omega arith) (rows_told x.table x.rows x.number keys ranged.rows are.fit) in
+    let work = served_as (lock_service x operation keys) number in
+    let letters : Each LetterFits work.sent = ((locked_fits operation x.number (rows_of x.table x.rows x.number keys) fields.0 (node_fits x.number start.number) told, tt), tt) in
+    let now : IsNodeCounted (events + 1) work.node = record { tickets = more.tickets; items = more.items; batches = more.batches; fetches = omega arith; rows = omega arith } in
+    record {
+      within = within events work few now letters (omega arith) start.number (omega arith) (omega arith);
+      letters = letters;
+      ranged = record {
+        rows = ranged.rows;
+        sorted = ranged.sorted;
+        replica = without_ranged x.replica keys ranged.replica;
+        waiting = fit_cancel x.waiting ranged.waiting;
+        items = each_without_first _ _ x.items ranged.items;
+        batches = ranged.batches;
+      };
+      counted = now;
+    }
+
+service_keeps : (events : ℕ) (x : NodeState) (number : ℕ) (m : Message) → IsStart events x → FieldsFit m → IsGone x number m → (service_of x m).can ≡ true → KeepsRanges events (served_as (service_of x m) number)
+service_keeps events x number (message.FetchAsk asker fetch key) start fits gone can = fetch_keeps events x number asker fetch key start fits gone
+service_keeps events x number (message.Lock operation keys) start fits gone can = lock_keeps events x number operation keys start fits gone
+service_keeps events x number other start fits gone can = absurd (cc)
+
+serve_found : (events : ℕ) (x : NodeState) (item : Option Item) (work : Work) → IsStart events x → ((i : Item) → item ≡ Some i → FieldsFit i.message × IsGone x i.number i.message) → serve x item ≡ Some work → KeepsRanges events work
+unfolding served
 serve_found events x None work start fits is = absurd (cc)
 serve_found events x (Some item) work start fits is =
-    elim (can_serve x item.message) as (λ b. cond b (Some (served x item)) None ≡ Some work → KeepsRanges events work) [
-      | true ↦ λ e. subst (KeepsRanges events) (same_Some (served x item) work e) (served_keeps events x item start (fits item refl))
-      | false ↦ λ e. absurd (cc)
-    ] is
+    elim (can_serve x item.message) as (λ b. can_serve x item.message ≡ b → cond b (Some (served x item)) None ≡ Some work → KeepsRanges events work) [
+      | true ↦ λ can e. let h = fits item refl in subst (KeepsRanges events) (same_Some (served x item) work e) (service_keeps events x item.number item.message start h.0 h.1 can)
+      | false ↦ λ _ e. absurd (cc)
+    ] refl is
 
 pub serve_keeps : (events : ℕ) (x : NodeState) (number : ℕ) (work : Work) → IsStart events x → node_step x (Serve number) ≡ Some work → KeepsRanges events work
 unfolding node_step
 serve_keeps events x number work start is =
     serve_found events x (item_of x number) work start
-    (λ item there. each_in (λ (i : Item). FieldsFit i.message) x.items item start.ranged.items (find_in (λ (i : Item). i.number == number) x.items item there).1) is
+    (λ item there.
+    let test = λ (i : Item). i.number == number in
+    let found = find_in test x.items item there in
+    let at : item.number ≡ number = same_number item.number number found.0 in (
+      each_in (λ (i : Item). FieldsFit i.message) x.items item start.ranged.items found.1,
+      subst (λ n. IsGone x n item.message) (sym at) (cancelling_found test x.items item there),
+    )) is
 
 -- ---- a batch is released
 
@@ -141,10 +211,11 @@ released_keeps events x number start =
     let opened = start.opened in
     let ranged = start.ranged in
     let more = counted_more events x start.counted in
-    let now : IsNodeCounted (events + 1) (released x number) = record { tickets = more.tickets; items = more.items; batches = more.batches; operation = more.operation; fetches = more.fetches } in
+    let now : IsNodeCounted (events + 1) (released x number) = record { tickets = more.tickets; items = more.items; batches = more.batches; fetches = more.fetches; rows = more.rows } in
     record {
       within = within events (begun (released x number)) few now tt (omega arith) start.number (omega arith) (omega arith);
-      ranged = record { rows = ranged.rows; replica = ranged.replica; waiting = ranged.waiting; items = ranged.items; batches = each_without_first _ _ x.batches ranged.batches };
+      letters = tt;
+      ranged = record { rows = ranged.rows; sorted = ranged.sorted; replica = ranged.replica; waiting = ranged.waiting; items = ranged.items; batches = each_without_first _ _ x.batches ranged.batches };
       counted = now;
     }
 

@@ -11,18 +11,18 @@ use Rattle.fal_node.specs.Deliver.{without_calls}
 use Rattle.fal_node.specs.Gather.{with_fetches}
 use Rattle.fal_wait.specs.declared.waiting_call.WaitingCall.{WaitingCall}
 use Rattle.fal_wait.specs.Lists.{has_number}
-use Rattle.fal_wait.specs.Waiting.{WaitList, call_with_ticket, fetch_of, is_new, with_call, after_admit, without_call, on_fetch, after_open, waits_on, off_fetch, without_fetch, settled_by, after_settle}
-use Rattle.fal_wire.specs.Ops.{call_field}
+use Rattle.fal_wait.specs.Waiting.{WaitList, call_with_ticket, fetch_of, is_new, with_call, after_admit, without_call, unbound, after_cancel, on_fetch, after_open, waits_on, off_fetch, without_fetch, settled_by, after_settle}
 use Rattle.fal_story.proofs.Lists.Each.{Each, each_weaker, each_join}
 use Rattle.fal_story.proofs.Lists.Members.{each_in, each_map, find_in, each_without_first}
+use Rattle.fal_story.proofs.Ranges.Bounds.{CallFits}
 
 abbrev pub WaiterFits : WaitingCall → Type 0
-WaiterFits w = call_field.Fits w.call
+WaiterFits w = CallFits w.call
 
 abbrev pub WaitersFit : WaitList → Type 0
 WaitersFit list = Each WaiterFits list.calls
 
-pub fit_admit : (list : WaitList) (call : CallRec) → call_field.Fits call → WaitersFit list → WaitersFit (after_admit list call)
+pub fit_admit : (list : WaitList) (call : CallRec) → CallFits call → WaitersFit list → WaitersFit (after_admit list call)
 unfolding with_call
 fit_admit list call fits h = elim (is_new list call) as (λ b. WaitersFit (cond b (with_call list call) list)) [
   | true ↦ each_join WaiterFits list.calls _ h (fits, tt)
@@ -54,6 +54,9 @@ fit_free list number h = each_map WaiterFits (λ w. off_fetch number w) list.cal
 pub fit_settle : (list : WaitList) (number : ℕ) → WaitersFit list → WaitersFit (after_settle list number)
 fit_settle list number h = elim (fetch_of list number) as (λ f. WaitersFit (settled_by list number f)) [ None ↦ h | Some f ↦ fit_free list number h ]
 
+pub fit_cancel : (list : WaitList) → WaitersFit list → WaitersFit (after_cancel list)
+fit_cancel list h = each_map WaiterFits (λ w. unbound w) list.calls (each_weaker WaiterFits _ list.calls (λ w fits. fits) h)
+
 call_found : (found : Option WaitingCall) (call : CallRec) → option_map (λ (w : WaitingCall). w.call) found ≡ Some call → (w : WaitingCall) × (found ≡ Some w) × (w.call ≡ call)
 call_found None call is = absurd (cc)
 call_found (Some w) call is = (w, refl, same_Some w.call call is)
@@ -64,5 +67,5 @@ waiter_has P list ticket call is h =
     let x = call_found (find (λ (w : WaitingCall). w.ticket == ticket) list.calls) call is in
     subst P x.2 (each_in (λ (w : WaitingCall). P w.call) list.calls x.0 h (find_in (λ (w : WaitingCall). w.ticket == ticket) list.calls x.0 x.1).1)
 
-pub waiter_of : (list : WaitList) (ticket : ℕ) (call : CallRec) → call_with_ticket list ticket ≡ Some call → WaitersFit list → call_field.Fits call
-waiter_of list ticket call is h = waiter_has (λ c. call_field.Fits c) list ticket call is h
+pub waiter_of : (list : WaitList) (ticket : ℕ) (call : CallRec) → call_with_ticket list ticket ≡ Some call → WaitersFit list → CallFits call
+waiter_of list ticket call is h = waiter_has (λ c. CallFits c) list ticket call is h

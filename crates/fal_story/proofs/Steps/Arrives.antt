@@ -11,19 +11,19 @@ use Rattle.fal_place.specs.Placement.{Placement, owner}
 use Rattle.fal_wire.specs.declared.message.Message.{Message}
 use Rattle.fal_wire.specs.declared.message.Message.TheVariants as message
 use Rattle.fal_locks.specs.declared.holder.Shut.{Shut}
-use Rattle.fal_story.proofs.Families.Operation.{LocksKeys, Stands, ToldCommit, ToldLocked, ToldDone, rows_of, shut_by, AreCounted, IsCounted, ToldCounted, ToldCount}
+use Rattle.fal_story.proofs.Families.Operation.{LocksKeys, Stands, ToldCommit, ToldLocked, ToldDone, shut_by, AreCounted, IsCounted, ToldCounted, ToldCount}
 use Rattle.fal_story.proofs.Good.{Good}
 use Rattle.fal_story.proofs.Lists.Grown.{put_same}
 use Rattle.fal_story.proofs.Phase.{IsCrossing}
 use Rattle.fal_story.proofs.Steps.Carried.{dropped_good, dropped_none, shut_good}
 use Rattle.fal_story.proofs.Steps.Posted.{posted_good}
 use Rattle.fal_story.proofs.Steps.Reads.{read_locked}
-use Rattle.fal_story.proofs.Trees.Laid.{owned}
 use Rattle.fal_story.proofs.View.{IsPosted, post, View, Kept, Work, Rests, Walks, Locks, Counts, Ends, now}
 use Rattle.fal_story.specs.World.{put}
 use Rattle.fal_base.specs.Tree.{row_at}
 use Rattle.fal_base.specs.Maps.{value_at}
 use Rattle.fal_base.proofs.Entries.{SomeUnder}
+use Rattle.fal_duty.specs.Duties.{owned, rows_of}
 
 -- a Lock that is newer than the last is that of the operation, and comes to a node
 pub lock_comes : (config : Config) (v : View) (e p o n : ℕ) (keys : List Key) → IsPosted v.posts e (Node n) p (message.Lock o keys) → v.op.last n < o → Good config v → (n < config.nodes) × (o ≡ v.op.operation) × LocksKeys v.op.work keys

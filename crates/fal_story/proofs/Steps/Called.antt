@@ -1,5 +1,5 @@
 -- A call from its sending to its answer: it is sent, taken by an actor, handed on to the coordinator, answered.
-use Rattle.std.proofs.Common.{◌≡◌, ◌≢◌, ⊎_elim, ℕ, ◌+◌, ◌<◌, ◌≤◌, true, [], ◌∷◌, ◌++◌, length, Some, None, refl, sym, ap, ◌∙◌, subst}
+use Rattle.std.proofs.Common.{◌≡◌, ◌≢◌, ⊎_elim, ℕ, ◌+◌, ◌<◌, ◌≤◌, true, [], ◌∷◌, ◌++◌, length, Some, None, refl, sym, ◌∙◌, subst}
 use Rattle.std.specs.Prelude.{IsTrue}
 use Rattle.fal_base.specs.declared.call.CallRec.{CallRec}
 use Rattle.fal_base.specs.declared.call.Config.{Config}
@@ -34,7 +34,7 @@ pub record IsNext (config : Config) (v : View) (l : ℕ) (call : CallRec) : Type
   pub number : call.id.seq ≡ v.seq l + 1
   pub served : IsTrue (is_served call.op)
 
-pub asked_good : (config : Config) (v : View) (l n : ℕ) (call : CallRec) → IsNext config v l call → op_field.Fits call.op → addressee v.map.table call.op ≡ Node n → Good config v
+pub asked_good : (config : Config) (v : View) (l n : ℕ) (call : CallRec) → IsNext config v l call → op_field.Fits call.op → ((m : ℕ) → m < config.nodes → n ≡ m → addressee v.map.table call.op ≡ Node m) → Good config v
     → Good config (record v {
       entries = v.entries ++ entry.Sent l (v.seq l + 1) ∷ [];
       seq = put v.seq l (v.seq l + 1);
@@ -47,7 +47,7 @@ asked_good config v l n call next fits to g = record {
   clear = clear_put g.clear l (Asked n) tt;
   asking = asking_called g.asking (put v.since l (length v.commits)) l call (Asked n) (λ a ne. put_other v.since l (length v.commits) a ne) tt;
   plans = plans_called g.plans l call (Asked n) tt;
-  lanes = lanes_sent g.lanes l call (Asked n) (record { no_done = λ k r e. absurd (cc); routed = λ m _ is. to ∙ ap Node is; served = next.served; fits = λ _. fits }) g.script.commits.older;
+  lanes = lanes_sent g.lanes l call (Asked n) (record { no_done = λ k r e. absurd (cc); routed = to; served = next.served; fits = λ _. fits }) g.script.commits.older;
   script = script_sent g.script l call (Asked n) next.named next.lane next.number;
   records = records_sent g.records l call (Asked n) next.idle;
   operation = operation_sent g.operation l call (Asked n) (λ e. let idle = next.idle in absurd (cc)) (λ e. absurd (cc));

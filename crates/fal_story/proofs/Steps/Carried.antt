@@ -12,7 +12,9 @@ use Rattle.fal_base.specs.declared.row.Update.{Update}
 use Rattle.fal_base.specs.Maps.{value_at}
 use Rattle.fal_base.proofs.Order.{same_of_tied}
 use Rattle.fal_base.specs.Tree.{key_cmp, row_at}
+use Rattle.fal_coord.specs.Nodes.{numbers_below, without_node}
 use Rattle.fal_dentry.specs.Walk.{Dentries, is_among, without_keys}
+use Rattle.fal_duty.specs.Duties.{rows_of}
 use Rattle.fal_run.specs.Calls.{is_making}
 use Rattle.fal_wire.specs.declared.message.Message.{Message}
 use Rattle.fal_wire.specs.declared.message.Message.TheVariants as message
@@ -20,11 +22,11 @@ use Rattle.fal_story.proofs.Families.Asking.{asking_put}
 use Rattle.fal_story.proofs.Families.Clear.{clear_dropped, clear_put, clear_shut}
 use Rattle.fal_story.proofs.Families.Ground.{ground_dropped}
 use Rattle.fal_story.proofs.Families.Lanes.{IsRight, lanes_put, positive}
-use Rattle.fal_story.proofs.Families.Operation.{Operation, IsKept, numbers_below, rows_of, shut_by, IsCounted}
+use Rattle.fal_story.proofs.Families.Operation.{Operation, IsKept, shut_by, IsCounted}
 use Rattle.fal_story.proofs.Families.Plans.{plans_put}
 use Rattle.fal_story.proofs.Families.Records.{records_moved}
 use Rattle.fal_story.proofs.Families.Script.{script_moved}
-use Rattle.fal_story.proofs.Families.Stages.{operation_started, operation_locking, operation_given_up, operation_shut, operation_heard, operation_done, operation_rested, operation_counting, operation_counted, without_node}
+use Rattle.fal_story.proofs.Families.Stages.{operation_started, operation_locking, operation_given_up, operation_shut, operation_heard, operation_done, operation_rested, operation_counting, operation_counted}
 use Rattle.fal_story.proofs.Good.{Good}
 use Rattle.fal_story.proofs.Phase.{Runs, Tells, Replies, IsCrossing, IsHeld, IsPast, goes_put, held_live, held_taken, stays_put}
 use Rattle.fal_story.proofs.View.{View, Work, Kept, Rests, Walks, Locks, Ends, now, Counts}

@@ -16,12 +16,14 @@ use Rattle.fal_base.specs.Maps.{value_at}
 use Rattle.fal_base.specs.Tree.{row_at}
 use Rattle.fal_base.specs.Updates.{laid, keys_of}
 use Rattle.fal_base.proofs.Updates.{laid_off}
+use Rattle.fal_coord.specs.Nodes.{numbers_below}
 use Rattle.fal_dentry.specs.Walk.{is_among}
+use Rattle.fal_duty.specs.Duties.{owned}
 use Rattle.fal_story.proofs.Families.Asking.{IsCrossed, asking_committed, asking_put}
 use Rattle.fal_story.proofs.Families.Clear.{IsShut, clear_put}
 use Rattle.fal_story.proofs.Families.Ground.{ground_decided}
 use Rattle.fal_story.proofs.Families.Lanes.{IsRight, lanes_committed, lanes_put, positive}
-use Rattle.fal_story.proofs.Families.Operation.{HasShut, numbers_below}
+use Rattle.fal_story.proofs.Families.Operation.{HasShut}
 use Rattle.fal_story.proofs.Families.OperationEnds.{IsReady, ready_of, ready_quiet, ready_shut, operation_decided, operation_ended}
 use Rattle.fal_story.proofs.Families.Plans.{plans_committed, plans_put}
 use Rattle.fal_story.proofs.Families.Records.{records_done, records_moved}
@@ -31,7 +33,6 @@ use Rattle.fal_story.proofs.Lists.Grown.{slice_get_snoc, slice_get_end, tells}
 use Rattle.fal_story.proofs.Phase.{Idle, Runs, Tells, Replies, IsCrossing, IsUnanswered, IsTaken, goes_put, stays_put, taken_live}
 use Rattle.fal_story.proofs.Trees.Changed.{IsChanged}
 use Rattle.fal_story.proofs.Trees.Commits.{longer, tree_at_front, tree_now_snoc, legal_snoc}
-use Rattle.fal_story.proofs.Trees.Laid.{owned}
 use Rattle.fal_story.proofs.Trees.Standing.{tree_now}
 use Rattle.fal_story.proofs.View.{Asking, View, Ends, now}
 use Rattle.fal_story.specs.World.{put}

@@ -1,5 +1,5 @@
 -- From the invariant to a decision: what the verdict on the rows that came says is so in the tree as it is now.
-use Rattle.std.proofs.Common.{◌≡◌, ◌≢◌, ⊎_elim, ℕ, true, false, ◌||◌, List, [], ◌∷◌, map, Option, Some, None, IsTrue, if◌then◌else◌, refl, sym, ap, ◌∙◌, subst}
+use Rattle.std.proofs.Common.{◌≡◌, ◌≢◌, ⊎_elim, ℕ, true, false, ◌||◌, List, [], ◌∷◌, map, Option, Some, None, IsSomeAnd, IsTrue, if◌then◌else◌, refl, sym, ap, ◌∙◌, subst}
 use Rattle.std.specs.List.{All}
 use Rattle.std.proofs.lemmas.List.Elements.{All-head, All-tail}
 use Rattle.std.proofs.lemmas.Option.{same_Some}
@@ -20,7 +20,6 @@ use Rattle.fal_base.specs.Tree.{Tree, row_at, same_key}
 use Rattle.fal_base.specs.Updates.{keys_of, row_among}
 use Rattle.fal_base.specs.Walk.{Ready}
 use Rattle.fal_base.proofs.Entries.{name_of_row, no_names}
-use Rattle.fal_base.proofs.Maps.{same_key_is}
 use Rattle.fal_coord.specs.Decided as decided
 use Rattle.fal_coord.specs.Decided.{SaysOfTree, SaysInTrees}
 use Rattle.fal_coord.specs.Judged.{Judged, Change, Count, end_of, is_for_rows, verdict_of}
@@ -33,6 +32,7 @@ use Rattle.fal_story.proofs.Families.Operation.{AreHeard, AreKept, IsKept, row_t
 use Rattle.fal_story.proofs.Families.OperationEnds.{IsReady}
 use Rattle.fal_story.proofs.Good.{Good}
 use Rattle.fal_story.proofs.Steps.Arrives.{none_counted, some_counted}
+use Rattle.fal_story.proofs.Steps.CountedDirs.{IsFound, counts_found, first_among}
 use Rattle.fal_story.proofs.Steps.Decided.{IsDecided}
 use Rattle.fal_story.proofs.View.{View, Kept, Locks, Counts, now}
 
@@ -58,13 +58,10 @@ passed_of (w ∷ next ∷ walks) = passed_of (next ∷ walks)
 abbrev pub lasts_of : List Kept → List Key
 lasts_of walks = map (λ w. w.last) walks
 
-told_row : (rows : List Update) (key : Key) (row : Option Inode) → row_told rows key ≡ Some row → row_among rows key ≡ row
+pub told_row : (rows : List Update) (key : Key) (row : Option Inode) → row_told rows key ≡ Some row → row_among rows key ≡ row
 told_row [] key row is = cc
 told_row (u ∷ us) key row is =
     elim (same_key u.key key) as (λ b. (if b then Some u.row else row_told us key) ≡ Some row → (if b then u.row else row_among us key) ≡ row) [ true ↦ λ is. same_Some _ _ is | false ↦ told_row us key row ] is
-
-first_among : (key : Key) (keys : List Key) → is_among key (key ∷ keys) ≡ true
-first_among key keys = ap (λ b. b || is_among key keys) ((same_key_is key key).1 refl)
 
 later_among : (other key : Key) (keys : List Key) → is_among key keys ≡ true → is_among key (other ∷ keys) ≡ true
 later_among other key keys is = elim (same_key other key) as (λ b. (b || is_among key keys) ≡ true) [ true ↦ refl | false ↦ is ]
@@ -142,6 +139,16 @@ module _ (config : Config) (v : View) (l : ℕ) (keys : List Key) (walks : List 
         | true ↦ λ last. locked key (ap (is_among key) (sym (lasts_are (now v) cred (v.call l).op walks are kept)) ∙ last)
         | false ↦ λ off. let none = within key cred (v.call l).op (parents_of walks) (passed_of walks) rows off in let wrong : true ≡ false = sym told ∙ none in absurd (cc)
       ] refl
+
+  -- the directory that is to be counted stands under a locked key
+  pub count_stands : (dir : ℕ) (updates : List Update) → v.op.work ≡ Locks l keys walks [] rows → judged ≡ Count dir updates → (key : Key) × (is_among key keys ≡ true) × IsSomeAnd (row_at (now v) key) (λ (r : Inode). r.ino ≡ dir)
+  count_stands dir updates at is =
+      let heard = subst (AreHeard v.map.table (now v)) at g.operation.heard in
+      let kept = subst (AreKept (now v) v.call) at g.operation.walks in
+      let found = subst (IsFound (last_keys (v.call l).op (parents_of walks)) rows) is (counts_found cred (v.call l).op (parents_of walks) (passed_of walks) rows) in
+      let inside : is_among found.0 keys ≡ true = locked found.0 (ap (is_among found.0) (sym (lasts_are (now v) cred (v.call l).op walks are kept)) ∙ found.1) in
+      let told : row_told rows found.0 ≡ Some (row_at (now v) found.0) = ⊎_elim {C = row_told rows found.0 ≡ Some (row_at (now v) found.0)} (λ x. let none = x.0 in absurd (cc)) (λ x. x.1) (heard found.0 inside) in
+      (found.0, inside, subst (λ row. IsSomeAnd row (λ (r : Inode). r.ino ≡ dir)) (told_row rows found.0 (row_at (now v) found.0) told) found.2)
 
   decides : (updates : List Update) → IsReady v.op.work l keys → decided.IsChange (now v) cred (v.call l).op updates → ((key : Key) → is_among key (keys_of updates) ≡ true → is_among key keys ≡ true)
       → ((key : Key) → is_among key keys ≡ true → value_at (v.replica 255) key ≡ None) → IsDecided config v l keys updates

@@ -1,5 +1,5 @@
 -- A planned call is executed.
-use Rattle.std.proofs.Common.{◌≡◌, ◌≢◌, inl, inr, ⊎_elim, ℕ, ◌+◌, ◌<◌, ◌≤◌, Bool, true, false, cond, List, [], ◌∷◌, ◌++◌, length, Option, Some, None, IsSomeAnd, refl, sym, ap, ◌∙◌, subst, arith, true≢false}
+use Rattle.std.proofs.Common.{◌≡◌, ◌≢◌, ◌⊎◌, inl, inr, ⊎_elim, ℕ, ◌+◌, ◌<◌, ◌≤◌, Bool, true, false, cond, List, [], ◌∷◌, ◌++◌, length, Option, Some, None, IsSomeAnd, refl, sym, ap, ◌∙◌, subst, arith, true≢false}
 use Rattle.std.specs.List.{All}
 use Rattle.std.specs.Prelude.{slice_get}
 use Rattle.fal_base.specs.declared.call.CallRec.{CallRec}
@@ -46,7 +46,7 @@ use Rattle.fal_story.proofs.Families.Script.{Commits, IsDrawn, script_committed}
 use Rattle.fal_story.proofs.Good.{Good}
 use Rattle.fal_story.proofs.Lists.Grown.{put_same, slice_get_snoc, slice_get_end, put_all}
 use Rattle.fal_story.proofs.Phase.{Idle, Plans, Tells, Replies, IsCrossing, IsTaken, IsUnanswered}
-use Rattle.fal_story.proofs.Steps.Outcomes.{outcome_done, outcome_off_dirs, remove_makes_none}
+use Rattle.fal_story.proofs.Steps.Outcomes.{outcome_ends, outcome_off_dirs, remove_makes_none}
 use Rattle.fal_story.proofs.Steps.Reads.{none_due, read_row, not_true}
 use Rattle.fal_story.proofs.Trees.Changed.{IsChanged}
 use Rattle.fal_story.proofs.Trees.CommitRows.{changed_at, change_noted, noted_made, noted_none, IsChangedAt, row_left}
@@ -125,10 +125,14 @@ unmade_right config v l n x reply is answered unmade g = record {
   only = λ i c there by. absurd (g.lanes.uncommitted l i c (subst IsUnanswered (sym is) tt) there by);
 }
 
--- a planned call has an outcome of this kind
-pub outcome_there : (config : Config) (v : View) (l n : ℕ) (x : BatchCall) → v.phase l ≡ Plans n x → x.denied ≡ false → Good config v
-    → (reply : Reply) × ((ch : Change) × IsOutcome v l n x reply ch)
-outcome_there config v l n x is ready g = outcome_done (row_at (v.rows n) x.last) x.parent (v.call l).cred (v.call l).op (number_after n (v.drawn n)) (g.lanes.under_way.served l (under_way v l n x is))
+-- what comes of a planned call, by the node's rows, where it is passed on
+abbrev pub IsHandedOn : View → ℕ → ℕ → BatchCall → Type 0
+IsHandedOn v l n x = outcome_of (row_at (v.rows n) x.last) x.parent (v.call l).cred (v.call l).op (number_after n (v.drawn n)) ≡ out.PassOn
+
+-- a planned call is done, or passed on
+pub outcome_there : (config : Config) (v : View) (l n : ℕ) (x : BatchCall) → v.phase l ≡ Plans n x → Good config v
+    → ((reply : Reply) × ((ch : Change) × IsOutcome v l n x reply ch)) ⊎ IsHandedOn v l n x
+outcome_there config v l n x is g = outcome_ends (row_at (v.rows n) x.last) x.parent (v.call l).cred (v.call l).op (number_after n (v.drawn n)) (g.lanes.under_way.served l (under_way v l n x is))
 
 -- a call that is denied, and one that changes nothing, are answered now
 pub denied_right : (config : Config) (v : View) (l n : ℕ) (x : BatchCall) → v.phase l ≡ Plans n x → x.denied ≡ true → Good config v

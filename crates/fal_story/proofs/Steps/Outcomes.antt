@@ -1,5 +1,5 @@
--- What comes of a planned call that is served: it is done, and where it changes its row no directory stands there.
-use Rattle.std.proofs.Common.{◌≡◌, ◌≢◌, ℕ, Bool, true, false, not, List, [], ◌∷◌, Option, Some, None, refl, ap, ◌∙◌, cond, is_some}
+-- What comes of a planned call that is served: it is done, or passed on to the coordinator; and where it changes its row no directory stands there.
+use Rattle.std.proofs.Common.{◌≡◌, ◌≢◌, ◌⊎◌, inl, inr, ℕ, ◌==◌, Bool, true, false, not, ◌||◌, List, [], ◌∷◌, Option, Some, None, refl, ap, ◌∙◌, cond, is_some}
 use Rattle.std.specs.Prelude.{IsTrue}
 use Rattle.fal_base.specs.declared.call.Cred.{Cred}
 use Rattle.fal_base.specs.declared.inode.Dentry.{Dentry}
@@ -18,43 +18,57 @@ use Rattle.fal_exec.specs.declared.outcome.Change.TheVariants as change
 use Rattle.fal_exec.specs.declared.outcome.ExecOut.{ExecOut}
 use Rattle.fal_exec.specs.declared.outcome.ExecOut.TheVariants as out
 use Rattle.fal_exec.specs.Executed.{is_directory}
-use Rattle.fal_exec.specs.Outcome.{outcome_of, without_change, where_found, unless_refused, make_outcome, access_outcome, truncate_outcome, unlink_outcome}
+use Rattle.fal_exec.specs.Outcome.{outcome_of, without_change, where_found, unless_refused, changed, make_outcome, access_outcome, chmod_outcome, chown_outcome, truncate_outcome, unlink_outcome}
 use Rattle.fal_run.specs.Calls.{is_making}
 use Rattle.fal_story.specs.Clusters.{is_served}
 
--- ---- it is done
+-- ---- it is done, or passed on
 
 abbrev pub IsDone : ExecOut → Type 0
 IsDone o = (reply : Reply) × ((ch : Change) × (o ≡ out.Finish reply ch))
 
-done_kept : (reply : Reply) → IsDone (without_change reply)
-done_kept reply = (reply, (change.Keep, refl))
+-- it is done, or passed on to the coordinator
+abbrev pub HasEnd : ExecOut → Type 0
+HasEnd o = IsDone o ⊎ (o ≡ out.PassOn)
+
+end_kept : (reply : Reply) → HasEnd (without_change reply)
+end_kept reply = inl (reply, (change.Keep, refl))
 
 -- what holds of the answer to a check that fails, and of what comes after them all
 checked_ends : (Q : ExecOut → Type 0) → ((errno : Errno) → Q (without_change (Fail errno))) → (checks : List (Bool × Errno)) (o : ExecOut) → Q o → Q (unless_refused checks o)
 checked_ends Q fails [] o is = is
 checked_ends Q fails (check ∷ checks) o is = elim check.0 as (λ b. Q (cond b (without_change (Fail check.1)) (unless_refused checks o))) [ true ↦ fails check.1 | false ↦ checked_ends Q fails checks o is ]
 
-done_checked : (checks : List (Bool × Errno)) (o : ExecOut) → IsDone o → IsDone (unless_refused checks o)
-done_checked checks o is = checked_ends IsDone (λ errno. done_kept (Fail errno)) checks o is
+end_checked : (checks : List (Bool × Errno)) (o : ExecOut) → HasEnd o → HasEnd (unless_refused checks o)
+end_checked checks o is = checked_ends HasEnd (λ errno. end_kept (Fail errno)) checks o is
 
-done_found : (row : Option Inode) (go : Inode → ExecOut) → ((inode : Inode) → IsDone (go inode)) → IsDone (where_found row go)
-done_found None go is = done_kept (Fail Enoent)
-done_found (Some inode) go is = is inode
+end_found : (row : Option Inode) (go : Inode → ExecOut) → ((inode : Inode) → HasEnd (go inode)) → HasEnd (where_found row go)
+end_found None go is = end_kept (Fail Enoent)
+end_found (Some inode) go is = is inode
 
-done_made : (row : Option Inode) (parent : Option Dentry) (cred : Cred) (made : Inode) → IsDone (make_outcome row parent cred made)
-done_made row parent cred made = done_checked ((is_some row, Eexist) ∷ (not (kept_grants cred 2 parent), Eacces) ∷ []) (out.Finish Fine (change.Put made)) (Fine, (change.Put made, refl))
+end_made : (row : Option Inode) (parent : Option Dentry) (cred : Cred) (made : Inode) → HasEnd (make_outcome row parent cred made)
+end_made row parent cred made = end_checked ((is_some row, Eexist) ∷ (not (kept_grants cred 2 parent), Eacces) ∷ []) (out.Finish Fine (change.Put made)) (inl (Fine, (change.Put made, refl)))
 
-pub outcome_done : (row : Option Inode) (parent : Option Dentry) (cred : Cred) (call : Op) (fresh : ℕ) → IsTrue (is_served call) → IsDone (outcome_of row parent cred call fresh)
-outcome_done row parent cred (op.Mkdir path mode) fresh served = done_made row parent cred (new_row cred Dir mode fresh)
-outcome_done row parent cred (op.Create path mode) fresh served = done_made row parent cred (new_row cred File mode fresh)
-outcome_done row parent cred (op.Stat path) fresh served = done_found row (λ inode. without_change (Stat inode)) (λ inode. done_kept (Stat inode))
-outcome_done row parent cred (op.Access path want) fresh served = done_found row (access_outcome cred want) (λ inode. done_checked ((not (grants cred want inode), Eacces) ∷ []) (without_change Fine) (done_kept Fine))
-outcome_done row parent cred (op.Truncate path size) fresh served =
-    done_found row (truncate_outcome cred size) (λ inode. done_checked ((is_dir inode, Eisdir) ∷ (not (grants cred 2 inode), Eacces) ∷ []) _ (Fine, (change.Put (record inode { size = size }), refl)))
-outcome_done row parent cred (op.Unlink path) fresh served =
-    done_found row (unlink_outcome parent cred) (λ inode. done_checked ((not (kept_grants cred 2 parent), Eacces) ∷ (is_dir inode, Eperm) ∷ []) _ (Fine, (change.Remove, refl)))
-outcome_done row parent cred other fresh served = cc
+-- a row with other rights or another owner: that of a directory is the coordinator's to change
+end_changed : (inode now : Inode) → HasEnd (changed inode now)
+end_changed inode now = elim (is_dir inode) as (λ b. HasEnd (cond b out.PassOn (out.Finish Fine (change.Put now)))) [ true ↦ inr refl | false ↦ inl (Fine, (change.Put now, refl)) ]
+
+pub outcome_ends : (row : Option Inode) (parent : Option Dentry) (cred : Cred) (call : Op) (fresh : ℕ) → IsTrue (is_served call) → HasEnd (outcome_of row parent cred call fresh)
+outcome_ends row parent cred (op.Mkdir path mode) fresh served = end_made row parent cred (new_row cred Dir mode fresh)
+outcome_ends row parent cred (op.Create path mode) fresh served = end_made row parent cred (new_row cred File mode fresh)
+outcome_ends row parent cred (op.Stat path) fresh served = end_found row (λ inode. without_change (Stat inode)) (λ inode. end_kept (Stat inode))
+outcome_ends row parent cred (op.Access path want) fresh served = end_found row (access_outcome cred want) (λ inode. end_checked ((not (grants cred want inode), Eacces) ∷ []) (without_change Fine) (end_kept Fine))
+outcome_ends row parent cred (op.Chmod path mode) fresh served =
+    end_found row (chmod_outcome cred mode) (λ inode. end_checked ((not (cred.uid == 0 || cred.uid == inode.uid), Eperm) ∷ []) _ (end_changed inode (record inode { mode = mode })))
+outcome_ends row parent cred (op.Chown path uid gid) fresh served =
+    end_found row (chown_outcome cred uid gid) (λ inode. end_checked ((not (cred.uid == 0), Eperm) ∷ []) _ (end_changed inode (record inode { uid = uid; gid = gid })))
+outcome_ends row parent cred (op.Truncate path size) fresh served =
+    end_found row (truncate_outcome cred size) (λ inode. end_checked ((is_dir inode, Eisdir) ∷ (not (grants cred 2 inode), Eacces) ∷ []) _ (inl (Fine, (change.Put (record inode { size = size }), refl))))
+outcome_ends row parent cred (op.Unlink path) fresh served =
+    end_found row (unlink_outcome parent cred) (λ inode. end_checked ((not (kept_grants cred 2 parent), Eacces) ∷ (is_dir inode, Eperm) ∷ []) _ (inl (Fine, (change.Remove, refl))))
+outcome_ends row parent cred (op.Rmdir path) fresh served = end_kept Fine
+outcome_ends row parent cred (op.Rename old new) fresh served = end_kept Fine
+outcome_ends row parent cred other fresh served = absurd (cc)
 
 -- ---- a row that changes
 
@@ -80,6 +94,14 @@ no_row (Some inode) is = cc
 no_dir : (row : Option Inode) (inode : Inode) → row ≡ Some inode → is_dir inode ≡ false → is_directory row ≡ false
 no_dir row inode is off = ap is_directory is ∙ off
 
+-- other rights or another owner, of a file
+keeps_changed : (row : Option Inode) (inode now : Inode) → row ≡ Some inode → OrKeeps (is_directory row ≡ false) (changed inode now)
+keeps_changed row inode now there =
+    elim (is_dir inode) as (λ b. is_dir inode ≡ b → OrKeeps (is_directory row ≡ false) (cond b out.PassOn (out.Finish Fine (change.Put now)))) [
+      | true ↦ λ dir reply ch is changes. absurd (cc)
+      | false ↦ λ file reply ch is changes. no_dir row inode there file
+    ] refl
+
 off_dirs : (row : Option Inode) (parent : Option Dentry) (cred : Cred) (call : Op) (fresh : ℕ) → IsTrue (is_served call) → OrKeeps (is_directory row ≡ false) (outcome_of row parent cred call fresh)
 off_dirs row parent cred (op.Mkdir path mode) fresh served = keeps_after _ (is_some row) Eexist _ (λ none reply ch is changes. no_row row none)
 off_dirs row parent cred (op.Create path mode) fresh served = keeps_after _ (is_some row) Eexist _ (λ none reply ch is changes. no_row row none)
@@ -89,7 +111,13 @@ off_dirs row parent cred (op.Truncate path size) fresh served =
     keeps_found _ row _ (λ inode there. keeps_after _ (is_dir inode) Eisdir _ (λ file reply ch is changes. no_dir row inode there file))
 off_dirs row parent cred (op.Unlink path) fresh served =
     keeps_found _ row _ (λ inode there. keeps_after _ (not (kept_grants cred 2 parent)) Eacces _ (λ granted. keeps_after _ (is_dir inode) Eperm _ (λ file reply ch is changes. no_dir row inode there file)))
-off_dirs row parent cred other fresh served = cc
+off_dirs row parent cred (op.Chmod path mode) fresh served =
+    keeps_found _ row _ (λ inode there. keeps_after _ (not (cred.uid == 0 || cred.uid == inode.uid)) Eperm _ (λ _. keeps_changed row inode (record inode { mode = mode }) there))
+off_dirs row parent cred (op.Chown path uid gid) fresh served =
+    keeps_found _ row _ (λ inode there. keeps_after _ (not (cred.uid == 0)) Eperm _ (λ _. keeps_changed row inode (record inode { uid = uid; gid = gid }) there))
+off_dirs row parent cred (op.Rmdir path) fresh served = keeps _ Fine
+off_dirs row parent cred (op.Rename old new) fresh served = keeps _ Fine
+off_dirs row parent cred other fresh served = absurd (cc)
 
 -- where a served call changes its row, no directory stands there
 pub outcome_off_dirs : (row : Option Inode) (parent : Option Dentry) (cred : Cred) (call : Op) (fresh : ℕ) (reply : Reply) (ch : Change) → IsTrue (is_served call) → outcome_of row parent cred call fresh ≡ out.Finish reply ch

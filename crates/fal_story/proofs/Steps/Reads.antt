@@ -8,11 +8,12 @@ use Rattle.fal_base.specs.Tree.{row_at}
 use Rattle.fal_base.specs.Updates.{laid, keys_of}
 use Rattle.fal_base.proofs.Updates.{laid_off}
 use Rattle.fal_dentry.specs.Walk.{is_among}
+use Rattle.fal_duty.specs.Duties.{rows_of}
 use Rattle.fal_place.specs.Placement.{Placement, owner}
 use Rattle.fal_wire.specs.declared.message.Message.{Message}
 use Rattle.fal_locks.specs.declared.holder.Shut.{Shut}
 use Rattle.fal_story.proofs.Families.Clear.{IsShut}
-use Rattle.fal_story.proofs.Families.Operation.{AreWithin, Stands, rows_of}
+use Rattle.fal_story.proofs.Families.Operation.{AreWithin, Stands}
 use Rattle.fal_story.proofs.Families.OperationRows.{rows_same}
 use Rattle.fal_story.proofs.Good.{Good}
 use Rattle.fal_story.proofs.Trees.Laid.{owned_among}

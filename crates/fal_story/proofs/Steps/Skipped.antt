@@ -1,5 +1,5 @@
 -- A call with a bad path is answered as soon as it is sent.
-use Rattle.std.proofs.Common.{◌≡◌, ◌≢◌, ℕ, ◌+◌, ◌<◌, false, [], ◌∷◌, ◌++◌, length, Some, refl, sym, ap, ◌∙◌, subst, arith, append_assoc}
+use Rattle.std.proofs.Common.{◌≡◌, ◌≢◌, ℕ, ◌+◌, ◌<◌, ◌&&◌, Bool, true, false, [], ◌∷◌, ◌++◌, length, Some, refl, sym, ap, ◌∙◌, subst, arith, append_assoc}
 use Rattle.std.specs.Prelude.{IsTrue}
 use Rattle.std.proofs.lemmas.Option.{same_Some}
 use Rattle.fal_base.specs.declared.call.CallRec.{CallRec}
@@ -13,7 +13,7 @@ use Rattle.fal_base.specs.declared.path.PathFault.{PathFault}
 use Rattle.fal_base.specs.declared.reply.Reply.{Reply}
 use Rattle.fal_base.specs.declared.reply.Reply.TheVariants.{Fail}
 use Rattle.fal_base.specs.Answer.{answer, errno_of}
-use Rattle.fal_base.specs.Change.{makes}
+use Rattle.fal_base.specs.Change.{changes, makes}
 use Rattle.fal_base.specs.EachOnce.{NotAnswered}
 use Rattle.fal_base.specs.Tree.{Tree}
 use Rattle.fal_base.specs.OpPaths.{bad_path}
@@ -33,6 +33,10 @@ use Rattle.fal_story.proofs.View.{View, now}
 use Rattle.fal_story.specs.Clusters.{is_served}
 use Rattle.fal_story.specs.World.{put}
 
+and_false : (b : Bool) → (b && false) ≡ false
+and_false true = refl
+and_false false = refl
+
 -- what the plain tree answers to a call with a bad path, which makes no commit
 bad_answer : (tree : Tree) (cred : Cred) (call : Op) (fault : PathFault) → IsTrue (is_served call) → bad_path call ≡ Some fault → (Fail (errno_of fault) ≡ answer tree cred call) × (makes tree cred call ≡ false)
 unfolding bad_path
@@ -48,6 +52,17 @@ bad_answer tree cred (op.Truncate (GoodPath names) size) fault served bad = absu
 bad_answer tree cred (op.Truncate (Bad f raw) size) fault served bad = (ap (λ x. Fail (errno_of x)) (sym (same_Some _ _ bad)), refl)
 bad_answer tree cred (op.Unlink (GoodPath names)) fault served bad = absurd (cc)
 bad_answer tree cred (op.Unlink (Bad f raw)) fault served bad = (ap (λ x. Fail (errno_of x)) (sym (same_Some _ _ bad)), refl)
+bad_answer tree cred (op.Chmod (GoodPath names) mode) fault served bad = absurd (cc)
+bad_answer tree cred (op.Chmod (Bad f raw) mode) fault served bad = (ap (λ x. Fail (errno_of x)) (sym (same_Some _ _ bad)), refl)
+bad_answer tree cred (op.Chown (GoodPath names) uid gid) fault served bad = absurd (cc)
+bad_answer tree cred (op.Chown (Bad f raw) uid gid) fault served bad = (ap (λ x. Fail (errno_of x)) (sym (same_Some _ _ bad)), refl)
+bad_answer tree cred (op.Rmdir (GoodPath names)) fault served bad = absurd (cc)
+bad_answer tree cred (op.Rmdir (Bad f raw)) fault served bad = (ap (λ x. Fail (errno_of x)) (sym (same_Some _ _ bad)), refl)
+bad_answer tree cred (op.Rename (GoodPath from) (GoodPath to)) fault served bad = absurd (cc)
+bad_answer tree cred (op.Rename (GoodPath from) (Bad f raw)) fault served bad =
+    (ap (λ x. Fail (errno_of x)) (sym (same_Some _ _ bad)), and_false (changes tree cred (op.Rename (GoodPath from) (Bad f raw))))
+bad_answer tree cred (op.Rename (Bad f raw) to) fault served bad =
+    (ap (λ x. Fail (errno_of x)) (sym (same_Some _ _ bad)), and_false (changes tree cred (op.Rename (Bad f raw) to)))
 bad_answer tree cred other fault served bad = absurd (cc)
 
 bad_right : (config : Config) (v : View) (l : ℕ) (call : CallRec) (fault : PathFault) → IsTrue (is_served call.op) → bad_path call.op ≡ Some fault → Good config v

@@ -1,61 +1,43 @@
--- The coordinator walks for its call over its own replica: it asks for a directory that it lacks, or keeps where the walk ended.
-use Rattle.std.proofs.Common.{◌≡◌, ◌≢◌, ◌⊎◌, inl, inr, ⊎_elim, ℕ, ◌+◌, ◌<◌, ◌≤◌, true, List, [], ◌∷◌, ◌++◌, Option, Some, None, IsSomeAnd, refl, sym, ap, ◌∙◌, subst, arith}
-use Rattle.std.specs.List.{All}
+-- The coordinator lacks a directory on the walks of its call: a fetch is opened, for which the call waits, and the owner is asked.
+use Rattle.std.proofs.Common.{◌≡◌, ◌≢◌, ◌⊎◌, inl, inr, ⊎_elim, ℕ, ◌+◌, ◌<◌, ◌≤◌, List, [], ◌∷◌, ◌++◌, Some, None, refl, sym, ap, ◌∙◌, subst, arith}
 use Rattle.std.specs.Prelude.{slice_get}
 use Rattle.fal_base.specs.declared.call.Config.{Config}
-use Rattle.fal_base.specs.declared.call.Cred.{Cred}
 use Rattle.fal_base.specs.declared.event.Actor.TheVariants.{Node}
-use Rattle.fal_base.specs.declared.inode.Dentry.{Dentry}
 use Rattle.fal_base.specs.declared.key.Key.{Key}
-use Rattle.fal_base.specs.Walk.{walk}
-use Rattle.fal_dentry.specs.TreeWalk.{last_key, last_name, way}
-use Rattle.fal_dentry.specs.Walk.{Missing, Ready, is_among, replica_walk}
-use Rattle.fal_exec.specs.RowCall.{row_names}
 use Rattle.fal_place.specs.Placement.{owner}
 use Rattle.fal_wire.specs.declared.message.Message.TheVariants as message
-use Rattle.fal_story.proofs.Families.Asking.{Crosses, IsCrossed}
+use Rattle.fal_story.proofs.Families.Asking.{Crosses}
 use Rattle.fal_story.proofs.Families.Clear.{IsShut}
-use Rattle.fal_story.proofs.Families.Operation.{IsKept, IsQuiet, Stands}
+use Rattle.fal_story.proofs.Families.Operation.{IsQuiet, Stands}
 use Rattle.fal_story.proofs.Good.{Good}
 use Rattle.fal_story.proofs.Lists.Grown.{from_put, only_one, put_both, put_same}
 use Rattle.fal_story.proofs.Phase.{Waits, IsHeld}
 use Rattle.fal_story.proofs.Steps.Fetching.{pended_good, raised_good}
 use Rattle.fal_story.proofs.Steps.Moved.{MayMove, moved_good}
 use Rattle.fal_story.proofs.Steps.Posted.{posted_good}
-use Rattle.fal_story.proofs.Trees.Changed.{up_to}
-use Rattle.fal_story.proofs.Trees.Footprint.{among_itself, comes_among}
-use Rattle.fal_story.proofs.Trees.Met.{Met, met_way}
-use Rattle.fal_story.proofs.Trees.Standing.{Reaches}
+use Rattle.fal_story.proofs.Trees.Footprint.{among_itself}
+use Rattle.fal_story.proofs.Trees.Paths.{ways_to}
+use Rattle.fal_story.proofs.Trees.Standing.{Reaches, call_paths}
 use Rattle.fal_story.proofs.View.{Asking, post, View, Walks, now}
 use Rattle.fal_story.specs.World.{put}
 
--- ---- the walk is ready: where it ended is kept
-
-pub walk_kept_now : (config : Config) (v : View) (cred : Cred) (names : List (List ℕ)) (parent : Option Dentry) (passed : List ℕ) (keys : List Key)
-    → replica_walk (v.replica 255) cred names [] ≡ Ready parent passed keys → Good config v → IsKept (now v) cred (record { names = names; parent = parent; passed = passed; last = last_key parent (last_name names) })
-walk_kept_now config v cred names parent passed keys is g =
-    let met = subst (Met (now v) (v.replica 255) cred [] names (way (now v) cred names) (walk (now v) cred names)) is (met_way (now v) (v.replica 255) cred [] (g.ground.replicas 255) names) in
-    (met.0.0, (met.0.1, met.0.2))
-
--- ---- the walk lacks a directory: a fetch is opened, for which the call waits
-
-module _ (config : Config) (v : View) (l : ℕ) (names : List (List ℕ)) (key : Key) (keys : List Key) (point : ℕ) where
-  abbrev number : ℕ
+module _ (config : Config) (v : View) (l : ℕ) (key : Key) (point : ℕ) where
+  abbrev pub number : ℕ
   number = v.opened 255
 
-  abbrev crossed_now : List Key
-  crossed_now = keys ++ key ∷ []
+  abbrev pub crossed_now : List Key
+  crossed_now = ways_to (now v) (v.call l).cred (call_paths (v.call l).op) key
 
-  abbrev fetch : Asking
+  abbrev pub fetch : Asking
   fetch = record { number = number; key = key }
 
-  abbrev raised : View
+  abbrev pub raised : View
   raised = record v { opened = put v.opened 255 (v.opened 255 + 1) }
 
-  abbrev moved : View
+  abbrev pub moved : View
   moved = record raised { phase = put v.phase l (Waits 255 (Some number)); op = record v.op { crossed = put v.op.crossed l crossed_now } }
 
-  abbrev pended : View
+  abbrev pub pended : View
   pended = record moved { fetches = put v.fetches 255 (v.fetches 255 ++ fetch ∷ []) }
 
   pub record IsLacking : Type 0 where
@@ -63,28 +45,14 @@ module _ (config : Config) (v : View) (l : ℕ) (names : List (List ℕ)) (key :
     pub work : v.op.work ≡ Walks l
     pub waits : v.phase l ≡ Waits 255 None
     pub none : v.fetches 255 ≡ []
-    pub named : row_names (v.call l).op ≡ Some names
-    pub lacks : replica_walk (v.replica 255) (v.call l).cred names [] ≡ Missing key keys
+    pub lacks : Reaches (now v) (v.call l) key
 
   -- the coordinator has nothing shut
   open_there : (q : Key) → IsLacking → Good config v → IsShut (v.op.shut 255) q → ⊥
   open_there q is g shut = subst (λ s. IsShut s q) (g.operation.beyond 255 is.few) shut
 
-  met : IsLacking → Good config v → Met (now v) (v.replica 255) (v.call l).cred [] names (way (now v) (v.call l).cred names) (walk (now v) (v.call l).cred names) (Missing key keys)
-  met is g =
-      subst (Met (now v) (v.replica 255) (v.call l).cred [] names (way (now v) (v.call l).cred names) (walk (now v) (v.call l).cred names)) is.lacks
-      (met_way (now v) (v.replica 255) (v.call l).cred [] (g.ground.replicas 255) names)
-
-  reaches : IsLacking → Good config v → Reaches (now v) (v.call l) key
-  reaches is g =
-      let x = met is g in
-      subst (λ o. IsSomeAnd o (λ names. is_among key (way (now v) (v.call l).cred names) ≡ true)) (sym is.named)
-      (comes_among key (way (now v) (v.call l).cred names) keys x.0)
-
-  crosses : IsLacking → Good config v → Crosses (now v) (v.call l) key crossed_now
-  crosses is g =
-      let x = met is g in
-      subst (λ o. IsSomeAnd o (λ names. All (IsCrossed crossed_now) (up_to key (way (now v) (v.call l).cred names)))) (sym is.named) (subst (All (IsCrossed crossed_now)) (sym x.0) (among_itself crossed_now))
+  crosses : Crosses (now v) (v.call l) key crossed_now
+  crosses = among_itself crossed_now
 
   -- the operation has a number, which no node has heard of
   has_begun : v.op.work ≡ Walks l → Good config v → 0 < v.op.operation
@@ -110,7 +78,7 @@ module _ (config : Config) (v : View) (l : ℕ) (names : List (List ℕ)) (key :
         no_got = λ e p q what posted. let drawn = g.asking.numbers.got e 255 p number q what posted in absurd (omega arith);
         no_ask = λ e p to q posted. let drawn = (g.asking.numbers.ask e p to 255 number q posted).1 in absurd (omega arith);
         reach = λ a waits. ⊎_elim
-            (λ x. subst (λ i. Reaches (now v) (v.call i) key × Crosses (now v) (v.call i) key (put v.op.crossed l crossed_now i)) (sym x.0) (reaches is g, subst (Crosses (now v) (v.call l) key) (sym (put_same v.op.crossed l crossed_now)) (crosses is g)))
+            (λ x. subst (λ i. Reaches (now v) (v.call i) key × Crosses (now v) (v.call i) key (put v.op.crossed l crossed_now i)) (sym x.0) (is.lacks, subst (Crosses (now v) (v.call l) key) (sym (put_same v.op.crossed l crossed_now)) crosses))
             (λ x. let drawn = g.asking.waits_drawn a 255 number x.1 in absurd (omega arith))
             (from_put v.phase l (Waits 255 (Some number)) a _ waits);
         off = open_there key is g;

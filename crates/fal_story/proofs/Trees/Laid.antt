@@ -8,14 +8,10 @@ use Rattle.fal_base.specs.Tree.{Tree, row_at, same_key}
 use Rattle.fal_base.specs.Updates.{keys_of, laid, laid_at}
 use Rattle.fal_base.proofs.Updates.{laid_cases}
 use Rattle.fal_dentry.specs.Walk.{is_among}
+use Rattle.fal_duty.specs.Duties.{owned}
 use Rattle.fal_place.specs.Placement.{Placement, owner}
 use Rattle.fal_story.proofs.Lists.Grown.{tells, unequal, or_second}
 use Rattle.fal_story.proofs.Trees.Standing.{row_of}
-
--- the updates whose keys live at the node
-abbrev pub owned : Placement → ℕ → List Update → List Update
-owned table n [] = []
-owned table n (u ∷ us) = if owner table u.key == n then u ∷ owned table n us else owned table n us
 
 module _ (table : Placement) (n : ℕ) where
   abbrev AreOf : Tree → Tree → Type 0

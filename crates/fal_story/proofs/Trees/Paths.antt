@@ -8,16 +8,8 @@ use Rattle.fal_base.specs.Tree.{Tree}
 use Rattle.fal_base.specs.Walk.{Walked, Stop, Ready, walk}
 use Rattle.fal_dentry.specs.TreeWalk.{way}
 use Rattle.fal_dentry.specs.Walk.{is_among}
+use Rattle.fal_story.proofs.Trees.Standing.{is_ready, reaches}
 use Rattle.fal_story.proofs.Trees.Changed.{IsChanged, IsEnded, up_to, reach_kept, walk_kept, way_kept}
-
-abbrev pub is_ready : Walked → Bool
-is_ready (Stop errno) = false
-is_ready (Ready parent passed last) = true
-
--- the walk of one of the paths comes to the key, and those of the paths before it are ready
-abbrev pub reaches : Tree → Cred → List (List (List ℕ)) → Key → Bool
-reaches t cred [] key = false
-reaches t cred (p ∷ ps) key = is_among key (way t cred p) || (is_ready (walk t cred p) && reaches t cred ps key)
 
 -- the keys up to there
 abbrev pub ways_to : Tree → Cred → List (List (List ℕ)) → Key → List Key
@@ -42,9 +34,9 @@ both_true false b is = absurd (cc)
 
 module _ (t u : Tree) (Safe : Key → Type 0) (cred : Cred) (changed : IsChanged t u Safe) (key : Key) where
   -- what the walks come to, they come to after the change, by the same keys
-  pub reaches_kept : (ps : List (List (List ℕ))) → All Safe (ways_to t cred ps key) → reaches t cred ps key ≡ true → (reaches u cred ps key ≡ true) × (ways_to u cred ps key ≡ ways_to t cred ps key)
-  reaches_kept [] safe is = absurd (cc)
-  reaches_kept (p ∷ ps) safe is =
+  pub paths_kept : (ps : List (List (List ℕ))) → All Safe (ways_to t cred ps key) → reaches t cred ps key ≡ true → (reaches u cred ps key ≡ true) × (ways_to u cred ps key ≡ ways_to t cred ps key)
+  paths_kept [] safe is = absurd (cc)
+  paths_kept (p ∷ ps) safe is =
       elim (is_among key (way t cred p)) as (λ b. is_among key (way t cred p) ≡ b → All Safe (if b then up_to key (way t cred p) else way t cred p ++ ways_to t cred ps key) → (b || (is_ready (walk t cred p) && reaches t cred ps key)) ≡ true
       → (reaches u cred (p ∷ ps) key ≡ true) × (ways_to u cred (p ∷ ps) key ≡ (if b then up_to key (way t cred p) else way t cred p ++ ways_to t cred ps key))) [
         | true ↦ λ here safe is. let z = reach_kept t u Safe cred changed p key safe here in (
@@ -57,7 +49,7 @@ module _ (t u : Tree) (Safe : Key → Type 0) (cred : Cred) (changed : IsChanged
             let ended = ready_ended (walk t cred p) ready.0 in
             let same_walk = walk_kept t u Safe cred changed p front ended in
             let same_way = way_kept t u Safe cred changed p front ended in
-            let rest = reaches_kept ps (back_all Safe (way t cred p) _ safe) ready.1 in
+            let rest = paths_kept ps (back_all Safe (way t cred p) _ safe) ready.1 in
             let off : is_among key (way u cred p) ≡ false = ap (is_among key) same_way ∙ gone in (
               ap (λ b. b || (is_ready (walk u cred p) && reaches u cred ps key)) off ∙ ap (λ w. is_ready w && reaches u cred ps key) same_walk ∙ ap (λ b. b && reaches u cred ps key) ready.0 ∙ rest.0,
               ap (λ b. if b then up_to key (way u cred p) else way u cred p ++ ways_to u cred ps key) off ∙ ap (λ ks. ks ++ ways_to u cred ps key) same_way ∙ ap (λ ks. way t cred p ++ ks) rest.1,

@@ -1,6 +1,7 @@
 -- The rows of all nodes together are the tree that the commits leave.
-use Rattle.std.proofs.Common.{◌≡◌, ◌≢◌, ⊎_elim, ℕ, zero, suc, ◌+◌, ◌%◌, ◌<◌, ◌≤◌, Bool, true, false, cond, List, [], ◌∷◌, length, Option, Some, None, refl, sym, ap, ◌∙◌, subst, arith, eqb-true}
-use Rattle.std.specs.Prelude.{map, take, ◌==◌, IsSome}
+use Rattle.std.proofs.Common.{◌≡◌, ◌≢◌, ◌⊎◌, inl, inr, ◌&&◌, ⊎_elim, ℕ, zero, suc, ◌+◌, ◌%◌, ◌<◌, ◌≤◌, Bool, true, false, cond, List, [], ◌∷◌, length, Option, Some, None, refl, sym, ap, ◌∙◌, subst, arith}
+use Rattle.std.specs.Prelude.{map, take, nat_lt, ◌==◌}
+use Rattle.std.proofs.lemmas.Bool.Decides.{nat_tests}
 use Rattle.std.specs.List.{fold, range_with_len}
 use Rattle.std.specs.Option.{option_or}
 use Rattle.std.specs.FinMap.Entries.{find-put, same_entries}
@@ -14,14 +15,23 @@ use Rattle.fal_base.specs.Commits.{Commit, tree_after, tree_at}
 use Rattle.fal_base.specs.Transcript.{commits_of}
 use Rattle.fal_base.specs.Tree.{Tree, tree0, key_cmp, same_key, row_at, IsInOrder}
 use Rattle.fal_base.proofs.Order.{key_cmp_total, same_of_tied, held, in_order_with, in_order_change}
+use Rattle.fal_base.specs.Updates.{laid}
+use Rattle.fal_coord.specs.declared.stage.Stage.{Stage}
+use Rattle.fal_coord.specs.declared.stage.Stage.TheVariants as stage
+use Rattle.fal_coord.specs.State.{CoordState, is_idle, is_quiet}
 use Rattle.fal_place.specs.Hash.{name_hash}
-use Rattle.fal_place.specs.Placement.{Placement, opening_table, owner, is_root_key}
+use Rattle.fal_place.specs.Placement.{opening_table, owner, is_root_key}
+use Rattle.fal_story.proofs.Events.Doing.{work_of}
 use Rattle.fal_story.proofs.Events.LegalRuns.{IsKept, legal_kept}
+use Rattle.fal_story.proofs.Events.Shows.{view_of}
+use Rattle.fal_story.proofs.Families.Operation.{Stands}
+use Rattle.fal_story.proofs.Good.{Good}
 use Rattle.fal_story.proofs.Lists.Grown.{tells}
-use Rattle.fal_story.proofs.Trees.Standing.{row_of, table_of, tree_now}
-use Rattle.fal_story.specs.AllRows.{AreOnce, with_tree, all_rows, tree_left}
+use Rattle.fal_story.proofs.Trees.Standing.{table_of}
+use Rattle.fal_story.specs.AllRows.{with_tree, all_rows, tree_left}
 use Rattle.fal_story.specs.Clusters.{IsCluster}
 use Rattle.fal_story.specs.Run.{IsLegal, run, entries_at}
+use Rattle.fal_story.proofs.View.{View, Rests}
 use Rattle.fal_story.specs.World.{World}
 
 -- ---- trees in order
@@ -97,38 +107,51 @@ owner_below nodes key some = elim (is_root_key key) as (λ b. cond b 0 (name_has
 abbrev trees_of : Config → World → List Tree
 trees_of config w = map (λ n. (w.nodes n).rows) (range_with_len 0 config.nodes)
 
-kept_rows : (config : Config) (w : World) → IsCluster config → IsKept config w → all_rows (trees_of config w) ≡ tree_at w.commits (length w.commits)
-kept_rows config w cluster k =
+-- no operation is under way
+is_at_rest : (c : CoordState) → is_quiet c ≡ true → work_of c.stage ≡ Rests
+is_at_rest c quiet = rests_at c.stage (second (length c.waiting == 0) (is_idle c.stage) quiet)
+  where
+    second : (a b : Bool) → (a && b) ≡ true → b ≡ true
+    second true b is = is
+    second false b is = absurd (cc)
+
+    rests_at : (s : Stage) → is_idle s ≡ true → work_of s ≡ Rests
+    rests_at stage.Idle is = refl
+    rests_at (stage.Walk call number key) is = absurd (cc)
+    rests_at (stage.Lock operation missing rows) is = absurd (cc)
+    rests_at (stage.Count operation rows dir updates missing counts) is = absurd (cc)
+    rests_at (stage.Finish keys updates missing) is = absurd (cc)
+
+pub below_or_past : (a b : ℕ) → (a < b) ⊎ (b ≤ a)
+below_or_past a b = elim (nat_lt a b) as (λ t. nat_lt a b ≡ t → (a < b) ⊎ (b ≤ a)) [ true ↦ λ is. inl (grind (arith, nat_tests)) | false ↦ λ is. inr (grind (arith, nat_tests)) ] refl
+
+-- where no operation is under way, no node has anything to lay
+none_due_at_rest : (config : Config) (v : View) (n : ℕ) → v.op.work ≡ Rests → Good config v → v.op.due n ≡ []
+none_due_at_rest config v n rests g = ⊎_elim {C = v.op.due n ≡ []}
+    (λ below. (subst (λ w. Stands v.map.table v.op.operation w n (v.op.shut n) (v.op.queued n) (v.op.last n) (v.op.due n)) rests (g.operation.stands n below)).0)
+    (λ past. (g.ground.absent n past).0)
+    (below_or_past n config.nodes)
+
+kept_rows : (config : Config) (w : World) → IsCluster config → is_quiet w.coord ≡ true → IsKept config w → all_rows (trees_of config w) ≡ tree_at w.commits (length w.commits)
+kept_rows config w cluster quiet k =
     let some : 0 < config.nodes = let s = cluster.some_nodes in omega arith in
     let tree = tree_at w.commits (length w.commits) in
+    let rests = is_at_rest w.coord quiet in
+    let due = λ (n : ℕ). none_due_at_rest config (view_of config w k.ghost) n rests k.shows.good in
+    let rows = λ (n : ℕ) (q : Key). sym (ap (λ us. row_at (laid us (w.nodes n).rows) q) (due n)) ∙ k.shows.good.ground.rows n q in
     same_tree (all_rows (trees_of config w)) tree (in_order_all (trees_of config w)) (in_order w.commits (length w.commits)) (λ q.
     let below : owner (table_of config) q < config.nodes = owner_below config.nodes q some in
-    reached (λ n. (w.nodes n).rows) q (owner (table_of config) q) (row_at tree q) (λ n. k.shows.good.ground.rows n q) [] 0 config.nodes refl (omega arith) (omega arith))
+    reached (λ n. (w.nodes n).rows) q (owner (table_of config) q) (row_at tree q) (λ n. rows n q) [] 0 config.nodes refl (omega arith) (omega arith))
 
--- after a legal run the rows of the nodes, from node 0 on, are the tree that the commits leave
-pub rows_are_tree : (config : Config) (events : List Event) (w : World) → IsLegal config events → run config events ≡ Some w
+-- after a legal run that leaves no operation under way the rows of the nodes, from node 0 on, are the tree that the commits leave
+pub rows_are_tree : (config : Config) (events : List Event) (w : World) → IsLegal config events → run config events ≡ Some w → is_quiet w.coord ≡ true
     → all_rows (map (λ n. (w.nodes n).rows) (range_with_len 0 config.nodes)) ≡ tree_at w.commits (length w.commits)
-rows_are_tree config events w legal at = kept_rows config w legal.cluster (legal_kept config events w legal at)
+rows_are_tree config events w legal at quiet = kept_rows config w legal.cluster quiet (legal_kept config events w legal at)
 
 -- and so the tree that the transcript leaves
-pub rows_are_told : (config : Config) (events : List Event) (w : World) → IsLegal config events → run config events ≡ Some w
+pub rows_are_told : (config : Config) (events : List Event) (w : World) → IsLegal config events → run config events ≡ Some w → is_quiet w.coord ≡ true
     → all_rows (map (λ n. (w.nodes n).rows) (range_with_len 0 config.nodes)) ≡ tree_left config events
-rows_are_told config events w legal at =
+rows_are_told config events w legal at quiet =
     let k = legal_kept config events w legal at in
-    kept_rows config w legal.cluster k
+    kept_rows config w legal.cluster quiet k
     ∙ ap (λ commits. tree_at commits (length commits)) (k.shows.good.script.joined.same ∙ ap (λ o. commits_of config (entries_at o)) (sym at))
-
--- a node's row stands at its owner
-owned : (table : Placement) (tree : Tree) (n : ℕ) (key : Key) → IsSome (row_of table tree n key) → owner table key ≡ n
-owned table tree n key is =
-    elim (owner table key == n) as (λ b. (owner table key == n) ≡ b → IsSome (cond b (row_at tree key) None) → owner table key ≡ n) [
-      | true ↦ λ own _. eqb-true (owner table key) n own
-      | false ↦ λ _ none. absurd (cc)
-    ] refl is
-
--- so after a legal run no two nodes have a row under the same key
-pub rows_once : (config : Config) (events : List Event) (w : World) → IsLegal config events → run config events ≡ Some w → AreOnce w
-rows_once config events w legal at a b key here there =
-    let rows = (legal_kept config events w legal at).shows.good.ground.rows in
-    sym (owned (table_of config) (tree_now w.commits) a key (subst (λ o. IsSome o) (rows a key) here))
-    ∙ owned (table_of config) (tree_now w.commits) b key (subst (λ o. IsSome o) (rows b key) there)

@@ -1,6 +1,6 @@
-use Rattle.std.proofs.Common.{◌↔◌, IsTrue, sym, subst}
+use Rattle.std.proofs.Common.{◌↔◌, IsTrue, refl, sym, subst}
 use Rattle.fal_base.specs.declared.op.Op.{Op}
-use Rattle.fal_story.proofs.Ranges.Fitting.{CanServe, access_is, as_good, create_is, mkdir_is, stat_is, truncate_is, unlink_is}
+use Rattle.fal_story.proofs.Ranges.Fitting.{CanServe, access_is, as_good, chmod_is, create_is, mkdir_is, rename_is, rmdir_is, stat_is, truncate_is, unlink_is}
 use Rattle.fal_story.proofs.cluster.is_op.Goals as goal
 
 pub returns-in-Mkdir : goal.returns-in-Mkdir
@@ -26,3 +26,19 @@ returns-in-Truncate c =
 pub returns-in-Unlink : goal.returns-in-Unlink
 returns-in-Unlink c =
     subst (λ (o : Op). IsTrue c.is_held-in-Unlink.result ↔ CanServe o) (sym c.in-Unlink.is) (as_good c.is_held-in-Unlink.ensures (unlink_is c.in-Unlink.path))
+
+pub returns-in-Chmod : goal.returns-in-Chmod
+returns-in-Chmod c =
+    subst (λ (o : Op). IsTrue c.is_held-in-Chmod.result ↔ CanServe o) (sym c.in-Chmod.is) (as_good c.is_held-in-Chmod.ensures (chmod_is c.in-Chmod.path c.in-Chmod.mode))
+
+pub returns-in-Chown : goal.returns-in-Chown
+returns-in-Chown c =
+    subst (λ (o : Op). IsTrue c.is_chown.result ↔ CanServe o) (sym c.in-Chown.is) (λ yes. let is = c.is_chown.ensures.0 yes in (refl, is.0, is.1), λ can. c.is_chown.ensures.1 (can.1, can.2))
+
+pub returns-in-Rmdir : goal.returns-in-Rmdir
+returns-in-Rmdir c =
+    subst (λ (o : Op). IsTrue c.is_held-in-Rmdir.result ↔ CanServe o) (sym c.in-Rmdir.is) (as_good c.is_held-in-Rmdir.ensures (rmdir_is c.in-Rmdir.path))
+
+pub returns-in-Rename : goal.returns-in-Rename
+returns-in-Rename c =
+    subst (λ (o : Op). IsTrue c.are_held.result ↔ CanServe o) (sym c.in-Rename.is) (as_good c.are_held.ensures (rename_is c.in-Rename.old c.in-Rename.new))

@@ -33,7 +33,7 @@ follow-requires-clause-is c =
     let inside = c.self.inside in
     let place = c.from-place.result - 1 in
     let slot = slice_get-get_or inside.clients.items place c.index_mut-client.result.now (search rules) in
-    let at = client_at inside.book.told inside.clients.items inside.nodes.items inside.coord inside.queues.items c.self.invariant c.args.lane place _ _ (search rules) slot c.index_mut-client.ensures.value in
+    let at = client_at inside.book.told inside.clients.items inside.nodes.items inside.coord.state inside.queues.items c.self.invariant c.args.lane place _ _ (search rules) slot c.index_mut-client.ensures.value in
     let is = subst (λ (t : Told). IsEventOfClient t c.args.event c.args.lane c.args.own) (sym c.self.view_is) c.requires in
     client_own inside.book.told c.args.event c.args.lane c.args.own is _ at.0 at.1
 
@@ -42,7 +42,7 @@ follow-requires-clause-can c =
     let inside = c.self.inside in
     let place = c.from-place.result - 1 in
     let slot = slice_get-get_or inside.clients.items place c.index_mut-client.result.now (search rules) in
-    let at = client_at inside.book.told inside.clients.items inside.nodes.items inside.coord inside.queues.items c.self.invariant c.args.lane place _ _ (search rules) slot c.index_mut-client.ensures.value in
+    let at = client_at inside.book.told inside.clients.items inside.nodes.items inside.coord.state inside.queues.items c.self.invariant c.args.lane place _ _ (search rules) slot c.index_mut-client.ensures.value in
     let is = subst (λ (t : Told). IsEventOfClient t c.args.event c.args.lane c.args.own) (sym c.self.view_is) c.requires in
     client_can_make inside.book.told c.args.event c.args.lane c.args.own _ c.legal.ensures at.0 is at.1
 
@@ -51,7 +51,7 @@ invariant_of-self c =
     let inside = c.self.inside in
     let place = c.from-place.result - 1 in
     let slot = slice_get-get_or inside.clients.items place c.index_mut-client.result.now (search rules) in
-    client_same inside.book.told inside.clients.items inside.nodes.items inside.coord inside.queues.items c.self.invariant c.follow.new.book.told _ c.follow.new.queues inside.queues.len (search rules) (search rules)
+    client_same inside.book.told inside.clients.items inside.nodes.items inside.coord.state inside.queues.items c.self.invariant c.follow.new.book.told _ c.follow.new.queues inside.queues.len (search rules) (search rules)
     c.as_mut_slice.ensures.value c.in_err-follow.ensures.same_book c.in_err-follow.ensures.same_queues place _ c.follow.new.actor slot (client_is _ _ c.in_err-follow.ensures.same_actor ∙ c.index_mut-client.ensures.value)
 
 pub invariant_of-self-2 : goal.invariant_of-self-2
@@ -65,5 +65,5 @@ invariant_of-self-2 c =
     let lanes : c.len.result ≡ length told.config.lanes = search rules in
     let by = client_by told event c.args.lane c.args.own (subst (λ (t : Told). IsEventOfClient t event c.args.lane c.args.own) (sym c.self.view_is) c.requires) in
     let held = subst (λ n. HoldDue n (came (with_event told event).events) (told_envelopes (with_event told event)) c.follow.new.queues) lanes c.in_ok-follow.ensures.queues in
-    client_next told inside.clients.items inside.nodes.items inside.coord inside.queues.items c.self.invariant c.follow.new.book.told _ c.follow.new.queues inside.queues.len (search rules) (search rules)
+    client_next told inside.clients.items inside.nodes.items inside.coord.state inside.queues.items c.self.invariant c.follow.new.book.told _ c.follow.new.queues inside.queues.len (search rules) (search rules)
     c.as_mut_slice.ensures.value event c.in_ok-follow.ensures.book held place _ c.follow.new.actor slot (by ∙ ap Client number) c.in_ok-follow.ensures.next

@@ -17,8 +17,8 @@ returns-in-Some c =
     let count : length xs ≡ length inside.clients.items = search rules in
     let lanes = all_gets 1 xs in
     let nodes = all_node_events 0 ys inside.nodes.items in
-    first_front (lanes ++ nodes) (coord_events q inside.coord) c.in-Some.event (first_front lanes nodes c.in-Some.event (sym c.in-Some.is ∙ c.first_of_lanes.ensures))
-    ∙ ap (λ events. slice_get events 0) (replies_are told.config told.events inside.clients.items inside.nodes.items inside.coord inside.queues.items xs q ys c.self.invariant (sym c.deref.ensures.value ∙ c.split.ensures.all) count)
+    first_front (lanes ++ nodes) (coord_events q inside.coord.state) c.in-Some.event (first_front lanes nodes c.in-Some.event (sym c.in-Some.is ∙ c.first_of_lanes.ensures))
+    ∙ ap (λ events. slice_get events 0) (replies_are told.config told.events inside.clients.items inside.nodes.items inside.coord.state inside.queues.items xs q ys c.self.invariant (sym c.deref.ensures.value ∙ c.split.ensures.all) count)
     ∙ ap (λ (t : Told). first_reply t.config t.events) c.self.view_is
 
 pub returns-in-Some-first_of_nodes : goal.returns-in-Some-first_of_nodes
@@ -33,8 +33,8 @@ returns-in-Some-first_of_nodes c =
     let nodes = all_node_events 0 ys inside.nodes.items in
     let event = c.in-Some-first_of_nodes.event in
     let first = sym c.in-Some-first_of_nodes.is ∙ c.first_of_nodes.ensures ∙ ap (λ ns. slice_get (all_node_events 0 ys ns) 0) c.deref-in-None.ensures.value in
-    first_front (lanes ++ nodes) (coord_events q inside.coord) event (first ∙ sym (first_back lanes nodes (sym c.in-None.is ∙ c.first_of_lanes.ensures)))
-    ∙ ap (λ events. slice_get events 0) (replies_are told.config told.events inside.clients.items inside.nodes.items inside.coord inside.queues.items xs q ys c.self.invariant (sym c.deref.ensures.value ∙ c.split.ensures.all) count)
+    first_front (lanes ++ nodes) (coord_events q inside.coord.state) event (first ∙ sym (first_back lanes nodes (sym c.in-None.is ∙ c.first_of_lanes.ensures)))
+    ∙ ap (λ events. slice_get events 0) (replies_are told.config told.events inside.clients.items inside.nodes.items inside.coord.state inside.queues.items xs q ys c.self.invariant (sym c.deref.ensures.value ∙ c.split.ensures.all) count)
     ∙ ap (λ (t : Told). first_reply t.config t.events) c.self.view_is
 
 pub returns-in-None-first_of_nodes : goal.returns-in-None-first_of_nodes
@@ -49,6 +49,6 @@ returns-in-None-first_of_nodes c =
     let nodes = all_node_events 0 ys inside.nodes.items in
     let no_node = sym c.in-None-first_of_nodes.is ∙ c.first_of_nodes.ensures ∙ ap (λ ns. slice_get (all_node_events 0 ys ns) 0) c.deref-in-None.ensures.value in
     let none = no_node ∙ sym (first_back lanes nodes (sym c.in-None.is ∙ c.first_of_lanes.ensures)) in
-    c.first_at_coord.ensures ∙ sym (first_back (lanes ++ nodes) (coord_events q inside.coord) none)
-    ∙ ap (λ events. slice_get events 0) (replies_are told.config told.events inside.clients.items inside.nodes.items inside.coord inside.queues.items xs q ys c.self.invariant (sym c.deref.ensures.value ∙ c.split.ensures.all) count)
+    c.first_at_coord.ensures ∙ sym (first_back (lanes ++ nodes) (coord_events q inside.coord.state) none)
+    ∙ ap (λ events. slice_get events 0) (replies_are told.config told.events inside.clients.items inside.nodes.items inside.coord.state inside.queues.items xs q ys c.self.invariant (sym c.deref.ensures.value ∙ c.split.ensures.all) count)
     ∙ ap (λ (t : Told). first_reply t.config t.events) c.self.view_is

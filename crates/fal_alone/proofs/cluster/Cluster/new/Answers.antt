@@ -8,7 +8,7 @@ pub invariant_of-result : goal.invariant_of-result
 invariant_of-result c =
     let clients = c.in_ok-clients.clients.items in
     let nodes = c.in_ok-nodes.nodes.items in
-    let coord = c.new-coord.result in
+    let coord = c.new-coord.result.state in
     let queues = c.in_ok-queues.queues.items in
     subst (λ (told : Told). IsWhole told.config told.events clients nodes coord queues) (sym c.new.ensures)
     (whole_opens c.args.config clients nodes coord queues c.in_ok-clients.ensures.count c.in_ok-clients.ensures.are c.in_ok-nodes.ensures.count c.in_ok-nodes.ensures.are c.new-coord.ensures (search rules) c.in_ok-queues.ensures.are)

@@ -30,7 +30,7 @@ follow-requires-clause-is c =
     let inside = c.self.inside in
     let place = c.from-place.result in
     let slot = slice_get-get_or inside.nodes.items place c.index_mut-node.result.now (search rules) in
-    let at = node_at inside.book.told inside.clients.items inside.nodes.items inside.coord inside.queues.items c.self.invariant c.args.number place _ _ (search rules) slot c.index_mut-node.ensures.value in
+    let at = node_at inside.book.told inside.clients.items inside.nodes.items inside.coord.state inside.queues.items c.self.invariant c.args.number place _ _ (search rules) slot c.index_mut-node.ensures.value in
     let is = subst (λ (t : Told). IsEventOfNode t c.args.event c.args.number c.args.own) (sym c.self.view_is) c.requires in
     node_own inside.book.told c.args.event c.args.number c.args.own is _ at.0 at.1
 
@@ -39,7 +39,7 @@ follow-requires-clause-can c =
     let inside = c.self.inside in
     let place = c.from-place.result in
     let slot = slice_get-get_or inside.nodes.items place c.index_mut-node.result.now (search rules) in
-    let at = node_at inside.book.told inside.clients.items inside.nodes.items inside.coord inside.queues.items c.self.invariant c.args.number place _ _ (search rules) slot c.index_mut-node.ensures.value in
+    let at = node_at inside.book.told inside.clients.items inside.nodes.items inside.coord.state inside.queues.items c.self.invariant c.args.number place _ _ (search rules) slot c.index_mut-node.ensures.value in
     let is = subst (λ (t : Told). IsEventOfNode t c.args.event c.args.number c.args.own) (sym c.self.view_is) c.requires in
     node_stays_within inside.book.told c.args.event c.args.number c.args.own _ c.legal.ensures at.0 is at.1
 
@@ -49,7 +49,7 @@ invariant_of-self c =
     let place = c.from-place.result in
     let slot = slice_get-get_or inside.nodes.items place c.index_mut-node.result.now (search rules) in
     let same = node_is _ _ c.in_err-follow.ensures.same_actor ∙ ap (λ (n : SeenNode). n.state) c.index_mut-node.ensures.value in
-    node_same inside.book.told inside.clients.items inside.nodes.items inside.coord inside.queues.items c.self.invariant c.follow.new.book.told _ c.follow.new.queues inside.queues.len (search rules) (search rules)
+    node_same inside.book.told inside.clients.items inside.nodes.items inside.coord.state inside.queues.items c.self.invariant c.follow.new.book.told _ c.follow.new.queues inside.queues.len (search rules) (search rules)
     c.as_mut_slice.ensures.value c.in_err-follow.ensures.same_book c.in_err-follow.ensures.same_queues place _ c.follow.new.actor slot same
 
 pub invariant_of-self-2 : goal.invariant_of-self-2
@@ -63,5 +63,5 @@ invariant_of-self-2 c =
     let lanes : c.len.result ≡ length told.config.lanes = search rules in
     let by = node_by told event c.args.number c.args.own (subst (λ (t : Told). IsEventOfNode t event c.args.number c.args.own) (sym c.self.view_is) c.requires) in
     let held = subst (λ n. HoldDue n (came (with_event told event).events) (told_envelopes (with_event told event)) c.follow.new.queues) lanes c.in_ok-follow.ensures.queues in
-    node_next told inside.clients.items inside.nodes.items inside.coord inside.queues.items c.self.invariant c.follow.new.book.told _ c.follow.new.queues inside.queues.len (search rules) (search rules)
+    node_next told inside.clients.items inside.nodes.items inside.coord.state inside.queues.items c.self.invariant c.follow.new.book.told _ c.follow.new.queues inside.queues.len (search rules) (search rules)
     c.as_mut_slice.ensures.value event c.in_ok-follow.ensures.book held place _ c.follow.new.actor slot (by ∙ ap Node number) c.in_ok-follow.ensures.next

@@ -17,9 +17,9 @@ returns-then-are_quiet c =
           let empty = ap no_numbers (sym c.deref.ensures.value) ∙ sym c.are_empty.ensures ∙ w.if-are_empty.true in
           let quiet = ap all_quiet (sym w.deref-then-are_empty.ensures.value) ∙ sym w.are_quiet.ensures ∙ nodes_quiet in (
             λ yes. subst (λ (told : Told). IsQuietAt told.config (world_of told) (came told.events)) c.self.view_is
-                (quiet_run inside.book.told.config inside.book.told.events inside.clients.items inside.nodes.items inside.coord inside.queues.items c.self.invariant c.legal.ensures empty quiet (sym c.quiet.ensures ∙ yes)),
+                (quiet_run inside.book.told.config inside.book.told.events inside.clients.items inside.nodes.items inside.coord.state inside.queues.items c.self.invariant c.legal.ensures empty quiet (sym c.quiet.ensures ∙ yes)),
             λ is. c.quiet.ensures
-                ∙ (run_quiet inside.book.told.config inside.book.told.events inside.clients.items inside.nodes.items inside.coord inside.queues.items c.self.invariant
+                ∙ (run_quiet inside.book.told.config inside.book.told.events inside.clients.items inside.nodes.items inside.coord.state inside.queues.items c.self.invariant
                 (subst (λ (told : Told). IsQuietAt told.config (world_of told) (came told.events)) (sym c.self.view_is) is)).rests,
           )
       | else-are_empty w ↦ let value = w.value-is in absurd (cc)
@@ -31,7 +31,7 @@ returns-else-are_quiet c =
     let no = c.if-are_quiet.false in (
       λ yes. absurd (cc),
       λ is.
-          let rest = run_quiet inside.book.told.config inside.book.told.events inside.clients.items inside.nodes.items inside.coord inside.queues.items c.self.invariant
+          let rest = run_quiet inside.book.told.config inside.book.told.events inside.clients.items inside.nodes.items inside.coord.state inside.queues.items c.self.invariant
           (subst (λ (told : Told). IsQuietAt told.config (world_of told) (came told.events)) (sym c.self.view_is) is) in
           elim c.if-are_empty.branch [
             | then-are_empty w ↦

@@ -1,0 +1,15 @@
+pub mod AtStage
+pub mod CallDone
+pub mod CallHeard
+pub mod Concludes
+pub mod CoordMoves
+pub mod CoordSends
+pub mod CountedHeard
+pub mod DoneHeard
+pub mod FoundHeard
+pub mod HearEvent
+pub mod LockedHeard
+pub mod StartEvent
+pub mod Suited
+pub mod WalkStep
+pub mod Walking

@@ -1,0 +1,31 @@
+-- What the coordinator is at, read off its stage.
+use Rattle.std.proofs.Common.{ℕ, List, [], ◌∷◌}
+use Rattle.std.specs.Prelude.{sum}
+use Rattle.fal_coord.specs.declared.stage.Operation.{Operation}
+use Rattle.fal_coord.specs.declared.stage.PathWalk.{PathWalk}
+use Rattle.fal_coord.specs.declared.stage.Stage.{Stage}
+use Rattle.fal_coord.specs.declared.stage.Stage.TheVariants as stage
+use Rattle.fal_coord.specs.Walks.{walked_paths}
+use Rattle.fal_dentry.specs.TreeWalk.{last_key, last_name}
+use Rattle.fal_story.proofs.View.{Asking, Kept, Work, Rests, Walks, Locks, Counts, Ends}
+
+-- where each path of an operation has ended
+abbrev pub kept_walks : List (List (List ℕ)) → List PathWalk → List Kept
+kept_walks (names ∷ paths) (walk ∷ walks) =
+    record { names = names; parent = walk.parent; passed = walk.inos; last = last_key walk.parent (last_name names) } ∷ kept_walks paths walks
+kept_walks paths walks = []
+
+abbrev pub kept_of : Operation → List Kept
+kept_of operation = kept_walks (walked_paths operation.call.op) operation.walks
+
+abbrev pub work_of : Stage → Work
+work_of stage.Idle = Rests
+work_of (stage.Walk call number key) = Walks call.id.client
+work_of (stage.Lock operation missing rows) = Locks operation.call.id.client operation.keys (kept_of operation) missing rows
+work_of (stage.Count operation rows dir updates missing counts) = Counts operation.call.id.client operation.keys (kept_of operation) missing rows dir updates (sum counts)
+work_of (stage.Finish keys updates missing) = Ends keys updates missing
+
+-- the fetch for which the coordinator waits
+abbrev pub awaited : Stage → List Asking
+awaited (stage.Walk call number key) = record { number = number; key = key } ∷ []
+awaited other = []
