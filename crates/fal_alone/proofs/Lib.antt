@@ -12,7 +12,7 @@ pub mod Pushes
 pub mod QuietRuns
 pub mod Ranged
 pub mod Roles
-pub mod RowLines
+pub mod Merging
 pub mod Taken
 pub mod Turns
 pub mod Wholes

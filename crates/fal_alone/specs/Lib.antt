@@ -5,3 +5,4 @@ pub mod Whole
 pub mod Opening
 pub mod Shown
 pub mod Extends
+pub mod Merged

@@ -9,7 +9,7 @@ ghost use Rattle.fal_alone.specs.Turns.{told_envelopes, with_event, deed_after, 
 use crate::follow::{Counts, follow};
 use crate::opening::{clients_of, nodes_of, queues_of};
 use crate::queue::Queue;
-use fal_base::{Actor, Config, Duplicate, Envelope, Event, OutOfMemory, Refuse};
+use fal_base::{Actor, Config, Envelope, Event, Items, OutOfMemory, Refuse};
 use fal_client::{Client, ClientEvent};
 use fal_coord::{Coord, CoordEvent};
 use fal_node::{Node, NodeEvent};
@@ -37,6 +37,20 @@ impl Model for Cluster {
     ghost view = { λ c. c.book.told };
 
     ghost invariant = { λ c. IsWhole c.book.told.config c.book.told.events c.clients.items c.nodes.items c.coord.state c.queues.items };
+}
+
+// The same envelope once more, its bytes at once.
+fn copy_of(alloc: Global, envelope: &Envelope) -> Result<Envelope, OutOfMemory>
+    ensures { IfOk result (λ copied. copied ≡ envelope.now) }
+{
+    let bytes = Vec::from_slice(alloc, envelope.bytes.as_slice())?;
+    Ok(Envelope {
+        from: envelope.from,
+        to: envelope.to,
+        sent_at: envelope.sent_at,
+        point: envelope.point,
+        bytes: Items::from_items(bytes),
+    })
 }
 
 impl Cluster {
@@ -93,7 +107,8 @@ impl Cluster {
         if envelope.to != actor {
             return Ok(None);
         }
-        Ok(Some(envelope.copy()?))
+        let copied = copy_of(self.alloc, envelope)?;
+        Ok(Some(copied))
     }
 
     // An event of a lane's client.

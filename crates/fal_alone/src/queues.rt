@@ -54,6 +54,9 @@ pub fn reserve(queues: &mut [Queue], n: usize) -> Result<(), OutOfMemory>
     ensures same { (numbers : ℕ → List ℕ) → Holds numbers queues.old → Holds numbers queues.new }
     ensures room { OnOk result (HaveRoom n queues.new) }
 {
+    if n == 0 {
+        return Ok(());
+    }
     for i in 0..queues.len() {
         let queue = &mut queues[i];
         queue.reserve(n)?;

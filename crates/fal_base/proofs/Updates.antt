@@ -27,7 +27,7 @@ laid_off (u ∷ us) t key off =
     laid_off us (laid_at t u.key u.row) key both.1 ∙ ⊎_elim (λ x. absurd (off_key u.key key both.0 x.0)) (λ x. x.1) (laid_cases t u.key key u.row)
 
 -- where one row stood under a key, one row stands there after the same updates
-laid_same : (us : List Update) (r s : Tree) (q : Key) → row_at r q ≡ row_at s q → row_at (laid us r) q ≡ row_at (laid us s) q
+pub laid_same : (us : List Update) (r s : Tree) (q : Key) → row_at r q ≡ row_at s q → row_at (laid us r) q ≡ row_at (laid us s) q
 laid_same [] r s q same = same
 laid_same (u ∷ us) r s q same = laid_same us (laid_at r u.key u.row) (laid_at s u.key u.row) q
     (⊎_elim

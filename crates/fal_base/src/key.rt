@@ -18,7 +18,10 @@ pub struct Key {
 pub(crate) fn compare_parts(parent: u64, name: &Name, other: &Key) -> Ordering
     ensures { result ≡ key_cmp (key_of parent name.now) other.now }
 {
-    parent.cmp(&other.parent).then(name.cmp(&other.name))
+    match parent.cmp(&other.parent) {
+        Ordering::Equal => name.cmp(&other.name),
+        apart => apart,
+    }
 }
 
 impl Key {

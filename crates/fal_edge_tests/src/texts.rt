@@ -1,6 +1,6 @@
 /// Calls, and the text of their run over the plain tree. What the program's own operations write stands among its own tests.
-pub fn runs() -> [(&'static [u8], &'static [u8]); 5] {
-    [no_call(), moves(), removals(), owners(), verbs()]
+pub fn runs() -> [(&'static [u8], &'static [u8]); 3] {
+    [no_call(), moves(), verbs()]
 }
 
 // No call.
@@ -80,115 +80,6 @@ ok 6
 failed 6
 commits 5
 directories 3
-files 1
-",
-    )
-}
-
-// A directory with an entry stays.
-fn removals() -> (&'static [u8], &'static [u8]) {
-    (
-        b"0|0|mkdir|/a|755
-0|0|create|/a/x|644
-0|0|rmdir|/a
-0|0|unlink|/a/x
-0|0|rmdir|/a
-",
-        b"falcon-transcript 1
-nodes 1
-lanes 1
-sent 1.1 0:0 mkdir /a 755
-commit 1.1 256
-answered 1.1 0 ok
-sent 1.2 0:0 create /a/x 644
-commit 1.2 512
-answered 1.2 1 ok
-sent 1.3 0:0 rmdir /a
-answered 1.3 2 ENOTEMPTY
-sent 1.4 0:0 unlink /a/x
-commit 1.4 0
-answered 1.4 2 ok
-sent 1.5 0:0 rmdir /a
-commit 1.5 0
-answered 1.5 3 ok
-tree 1
-0 / 1 dir 755 0:0 0
-calls 5
-ok 4
-failed 1
-commits 4
-directories 1
-files 0
-",
-    )
-}
-
-// Owners and modes say who may do what.
-fn owners() -> (&'static [u8], &'static [u8]) {
-    (
-        b"0|0|mkdir|/h|777
-1000|100|create|/h/f|640
-1000|200|access|/h/f|6
-1001|100|access|/h/f|4
-1001|100|access|/h/f|2
-1001|200|access|/h/f|4
-1001|200|access|/h/f|0
-1001|100|chmod|/h/f|600
-1000|100|chmod|/h/f|040
-1000|100|access|/h/f|4
-1000|100|chown|/h/f|5|5
-0|0|chown|/h/f|5|5
-0|0|truncate|/h/f|10
-0|0|truncate|/h|1
-0|0|stat|/h/f
-",
-        b"falcon-transcript 1
-nodes 1
-lanes 1
-sent 1.1 0:0 mkdir /h 777
-commit 1.1 256
-answered 1.1 0 ok
-sent 1.2 1000:100 create /h/f 640
-commit 1.2 512
-answered 1.2 1 ok
-sent 1.3 1000:200 access /h/f 6
-answered 1.3 2 ok
-sent 1.4 1001:100 access /h/f 4
-answered 1.4 2 ok
-sent 1.5 1001:100 access /h/f 2
-answered 1.5 2 EACCES
-sent 1.6 1001:200 access /h/f 4
-answered 1.6 2 EACCES
-sent 1.7 1001:200 access /h/f 0
-answered 1.7 2 ok
-sent 1.8 1001:100 chmod /h/f 600
-answered 1.8 2 EPERM
-sent 1.9 1000:100 chmod /h/f 040
-commit 1.9 0
-answered 1.9 2 ok
-sent 1.10 1000:100 access /h/f 4
-answered 1.10 3 EACCES
-sent 1.11 1000:100 chown /h/f 5 5
-answered 1.11 3 EPERM
-sent 1.12 0:0 chown /h/f 5 5
-commit 1.12 0
-answered 1.12 3 ok
-sent 1.13 0:0 truncate /h/f 10
-commit 1.13 0
-answered 1.13 4 ok
-sent 1.14 0:0 truncate /h 1
-answered 1.14 5 EISDIR
-sent 1.15 0:0 stat /h/f
-answered 1.15 5 stat 512 file 040 5:5 10
-tree 3
-0 / 1 dir 755 0:0 0
-1 h 256 dir 777 0:0 0
-256 f 512 file 040 5:5 10
-calls 15
-ok 9
-failed 6
-commits 5
-directories 2
 files 1
 ",
     )

@@ -1,14 +1,24 @@
 ghost use Rattle.std.specs.Prelude.{◌≡◌, ◌++◌, ◌∷◌, ◌<◌, OnOk};
+ghost use Rattle.std.specs.Fmt.{decimal};
 ghost use Rattle.std.specs.List.{list_all};
 ghost use Rattle.fal_report.specs.Escapes.{is_plain_byte, hex_digit as hex_digit_of, escaped_byte, escaped, each_after};
 
 use fal_base::{Name, OutOfMemory};
+use itoa::Buffer;
 
 pub(crate) fn put(out: &mut Vec<u8>, bytes: &[u8]) -> Result<(), OutOfMemory>
     ensures { OnOk result (out.new.items ≡ out.old.items ++ bytes.now) }
 {
     out.extend_from_slice(bytes)?;
     Ok(())
+}
+
+// The digits of a number.
+pub(crate) fn put_number(out: &mut Vec<u8>, n: u64) -> Result<(), OutOfMemory>
+    ensures { OnOk result (out.new.items ≡ out.old.items ++ decimal n) }
+{
+    let mut buffer = Buffer::new();
+    put(out, buffer.format(n).as_bytes())
 }
 
 fn is_plain(byte: u8) -> bool

@@ -1,7 +1,7 @@
 ghost use Rattle.std.specs.Prelude.{◌≡◌, ◌++◌, OnOk};
 ghost use Rattle.fal_report.specs.Calls.{names_text, path_text, path_op, spaced_number, spaced_mode, spaced_path, rule_text, place_op, op_text, call_text};
 
-use crate::bytes::{put, put_each_after, put_escaped};
+use crate::bytes::{put, put_each_after, put_escaped, put_number};
 use crate::inodes::{put_mode, put_owner};
 use fal_base::{Call, Name, Op, OutOfMemory, PathArg, Rule};
 use std::io::Write;
@@ -41,7 +41,8 @@ fn put_path_op(out: &mut Vec<u8>, word: &[u8], path: &PathArg) -> Result<(), Out
 fn put_spaced_number(out: &mut Vec<u8>, n: u64) -> Result<(), OutOfMemory>
     ensures { OnOk result (out.new.items ≡ out.old.items ++ spaced_number n) }
 {
-    write!(out, " {n}").map_err(|_| OutOfMemory)
+    put(out, b" ")?;
+    put_number(out, n)
 }
 
 #[tactic(auto, unfolding(crate::specs::Calls::spaced_mode))]

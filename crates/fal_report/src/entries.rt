@@ -4,7 +4,7 @@ ghost use Rattle.std.specs.Option.{option_copied};
 ghost use Rattle.fal_base.specs.Transcript.{numbered, call_of};
 ghost use Rattle.fal_report.specs.Entries.{errno_text, listing_text, reply_text, id_text, sent_text, entry_text};
 
-use crate::bytes::{put, put_each_after};
+use crate::bytes::{put, put_each_after, put_number};
 use crate::calls::put_call;
 use crate::inodes::put_inode;
 use fal_base::{Call, Config, Entry, Errno, Items, NameList, OutOfMemory, Reply};
@@ -33,7 +33,8 @@ fn put_listing(out: &mut Vec<u8>, names: &NameList) -> Result<(), OutOfMemory>
     ensures { OnOk result (out.new.items ≡ out.old.items ++ listing_text names.now) }
 {
     let count = names.len();
-    write!(out, "names {count}").map_err(|_| OutOfMemory)?;
+    put(out, b"names ")?;
+    put_number(out, count as u64)?;
     put_each_after(out, b' ', names.as_slice())?;
     Ok(())
 }
@@ -57,7 +58,11 @@ fn put_id(out: &mut Vec<u8>, word: &[u8], lane: u8, seq: u32) -> Result<(), OutO
     ensures { OnOk result (out.new.items ≡ out.old.items ++ id_text word.now lane seq) }
 {
     put(out, word)?;
-    write!(out, " {lane}.{seq} ").map_err(|_| OutOfMemory)
+    put(out, b" ")?;
+    put_number(out, u64::from(lane))?;
+    put(out, b".")?;
+    put_number(out, u64::from(seq))?;
+    put(out, b" ")
 }
 
 // The item of this number, counted from 1.
@@ -101,7 +106,8 @@ fn put_entry(out: &mut Vec<u8>, config: &Config, entry: &Entry) -> Result<(), Ou
         }
         Entry::Commit { lane, seq, ino } => {
             put_id(out, b"commit", *lane, *seq)?;
-            writeln!(out, "{ino}").map_err(|_| OutOfMemory)
+            put_number(out, *ino)?;
+            put(out, b"\n")
         }
         Entry::Opened {
             lane,
@@ -132,7 +138,8 @@ fn put_entry(out: &mut Vec<u8>, config: &Config, entry: &Entry) -> Result<(), Ou
             reply,
         } => {
             put_id(out, b"answered", *lane, *seq)?;
-            write!(out, "{point} ").map_err(|_| OutOfMemory)?;
+            put_number(out, *point)?;
+            put(out, b" ")?;
             put_reply(out, reply)?;
             put(out, b"\n")?;
             Ok(())

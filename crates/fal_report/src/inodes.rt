@@ -1,9 +1,8 @@
 ghost use Rattle.std.specs.Prelude.{◌≡◌, ◌++◌, OnOk};
 ghost use Rattle.fal_report.specs.Inodes.{kind_text, mode_text, owner_text, inode_text};
 
-use crate::bytes::put;
+use crate::bytes::{put, put_number};
 use fal_base::{Inode, Kind, OutOfMemory};
-use std::io::Write;
 
 fn kind_name(kind: Kind) -> &'static str
     ensures { result.now ≡ kind_text kind }
@@ -29,7 +28,9 @@ pub(crate) fn put_mode(out: &mut Vec<u8>, mode: u16) -> Result<(), OutOfMemory>
 pub(crate) fn put_owner(out: &mut Vec<u8>, uid: u32, gid: u32) -> Result<(), OutOfMemory>
     ensures { OnOk result (out.new.items ≡ out.old.items ++ owner_text uid gid) }
 {
-    write!(out, "{uid}:{gid}").map_err(|_| OutOfMemory)
+    put_number(out, u64::from(uid))?;
+    put(out, b":")?;
+    put_number(out, u64::from(gid))
 }
 
 pub(crate) fn put_inode(out: &mut Vec<u8>, inode: &Inode) -> Result<(), OutOfMemory>
@@ -43,12 +44,13 @@ pub(crate) fn put_inode(out: &mut Vec<u8>, inode: &Inode) -> Result<(), OutOfMem
         gid,
         size,
     } = *inode;
-    write!(out, "{ino} ").map_err(|_| OutOfMemory)?;
+    put_number(out, ino)?;
+    put(out, b" ")?;
     put(out, kind_name(kind).as_bytes())?;
     put(out, b" ")?;
     put_mode(out, mode)?;
     put(out, b" ")?;
     put_owner(out, uid, gid)?;
-    write!(out, " {size}").map_err(|_| OutOfMemory)?;
-    Ok(())
+    put(out, b" ")?;
+    put_number(out, size)
 }

@@ -2,11 +2,10 @@ ghost use Rattle.std.specs.Prelude.{◌≡◌, ◌++◌, OnOk};
 ghost use Rattle.std.specs.List.{flat_map};
 ghost use Rattle.fal_report.specs.Rows.{name_text, row_text, tree_text};
 
-use crate::bytes::{put, put_escaped};
+use crate::bytes::{put, put_escaped, put_number};
 use crate::counts::put_count;
 use crate::inodes::put_inode;
 use fal_base::{Name, OutOfMemory, TreeLine};
-use std::io::Write;
 
 fn put_name(out: &mut Vec<u8>, name: &Name) -> Result<(), OutOfMemory>
     ensures { OnOk result (out.new.items ≡ out.old.items ++ name_text name.now) }
@@ -24,7 +23,8 @@ fn put_row(out: &mut Vec<u8>, row: &TreeLine) -> Result<(), OutOfMemory>
     ensures { OnOk result (out.new.items ≡ out.old.items ++ row_text row.now) }
 {
     let parent = row.key.parent;
-    write!(out, "{parent} ").map_err(|_| OutOfMemory)?;
+    put_number(out, parent)?;
+    put(out, b" ")?;
     put_name(out, &row.key.name)?;
     put(out, b" ")?;
     put_inode(out, &row.inode)?;

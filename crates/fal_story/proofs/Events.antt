@@ -10,10 +10,12 @@ pub mod ExecEvent
 pub mod ExecHolds
 pub mod ExecStep
 pub mod Fates
+pub mod FirstTable
 pub mod Freed
 pub mod GatherEvent
 pub mod GatherHolds
 pub mod GatherPhases
+pub mod GetEvent
 pub mod Going
 pub mod GotEvent
 pub mod HandedCalls
@@ -28,4 +30,5 @@ pub mod Running
 pub mod Sends
 pub mod ServeEvent
 pub mod ServeLock
+pub mod ServedCalls
 pub mod Shows

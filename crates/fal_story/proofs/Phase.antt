@@ -19,6 +19,8 @@ pub data Phase : Type 0 where
   Plans : (n : ℕ) (planned : BatchCall) → Phase
   -- it is the operation that is carried out: walked, and not yet decided
   Runs : Phase
+  -- the table of its client is of this version, and a later one is under way to it
+  Told : (old new : ℕ) → Phase
   -- its answer is under way
   Tells : (answer : Answer) → Phase
 
@@ -29,6 +31,7 @@ IsUnanswered (Asked n) = Unit {0}
 IsUnanswered (Waits n f) = Unit {0}
 IsUnanswered (Plans n x) = Unit {0}
 IsUnanswered Runs = Unit {0}
+IsUnanswered (Told old new) = Unit {0}
 IsUnanswered (Tells answer) = ⊥
 
 -- the call was not yet executed, and is at this node or on its way to it
@@ -38,6 +41,7 @@ IsFor n (Asked m) = m ≡ n
 IsFor n (Waits m f) = m ≡ n
 IsFor n (Plans m x) = m ≡ n
 IsFor n Runs = ⊥
+IsFor n (Told old new) = ⊥
 IsFor n (Tells answer) = ⊥
 
 -- the node keeps the call
@@ -47,6 +51,7 @@ IsHeld n (Asked m) = ⊥
 IsHeld n (Waits m f) = m ≡ n
 IsHeld n (Plans m x) = m ≡ n
 IsHeld n Runs = ⊥
+IsHeld n (Told old new) = ⊥
 IsHeld n (Tells answer) = ⊥
 
 -- the place of the call at this node rests on the keys that it has crossed
@@ -57,6 +62,7 @@ IsCrossing n (Waits m None) = ⊥
 IsCrossing n (Waits m (Some fetch)) = m ≡ n
 IsCrossing n (Plans m x) = m ≡ n
 IsCrossing n Runs = ⊥
+IsCrossing n (Told old new) = ⊥
 IsCrossing n (Tells answer) = ⊥
 
 -- the call was taken by an actor, and is not answered
@@ -66,6 +72,7 @@ IsTaken (Asked n) = ⊥
 IsTaken (Waits n f) = Unit {0}
 IsTaken (Plans n x) = Unit {0}
 IsTaken Runs = Unit {0}
+IsTaken (Told old new) = Unit {0}
 IsTaken (Tells answer) = ⊥
 
 pub taken_live : (p : Phase) → IsTaken p → IsUnanswered p
@@ -74,6 +81,7 @@ taken_live (Asked n) is = absurd is
 taken_live (Waits n f) is = tt
 taken_live (Plans n x) is = tt
 taken_live Runs is = tt
+taken_live (Told old new) is = tt
 taken_live (Tells answer) is = is
 
 -- the call for which an operation was started, and decided or given up
@@ -83,6 +91,7 @@ IsPast (Asked n) = ⊥
 IsPast (Waits n f) = ⊥
 IsPast (Plans n x) = ⊥
 IsPast Runs = Unit {0}
+IsPast (Told old new) = ⊥
 IsPast (Tells answer) = Unit {0}
 
 -- ---- calls that move
@@ -110,6 +119,7 @@ IsPlace (Asked n) = ⊥
 IsPlace (Waits n f) = Unit {0}
 IsPlace (Plans n x) = Unit {0}
 IsPlace Runs = ⊥
+IsPlace (Told old new) = Unit {0}
 IsPlace (Tells answer) = Unit {0}
 
 pub goes_same : (p q : Phase) → q ≡ p → Goes p q
@@ -131,6 +141,7 @@ held_taken n (Asked m) h = absurd h
 held_taken n (Waits m f) h = tt
 held_taken n (Plans m x) h = tt
 held_taken n Runs h = absurd h
+held_taken n (Told old new) h = absurd h
 held_taken n (Tells answer) h = h
 
 pub held_live : (n : ℕ) (p : Phase) → IsHeld n p → IsUnanswered p
@@ -139,6 +150,7 @@ held_live n (Asked m) h = absurd h
 held_live n (Waits m f) h = tt
 held_live n (Plans m x) h = tt
 held_live n Runs h = absurd h
+held_live n (Told old new) h = absurd h
 held_live n (Tells answer) h = h
 
 held_not_past : (n : ℕ) (p : Phase) → IsHeld n p → IsPast p → ⊥
@@ -147,6 +159,7 @@ held_not_past n (Asked m) h past = h
 held_not_past n (Waits m f) h past = past
 held_not_past n (Plans m x) h past = past
 held_not_past n Runs h past = h
+held_not_past n (Told old new) h past = h
 held_not_past n (Tells answer) h past = h
 
 pub steady_held : (n : ℕ) (p q : Phase) → IsHeld n p → IsPlace q → IsSteady p q
@@ -164,6 +177,7 @@ IsBare (Waits n None) = Unit {0}
 IsBare (Waits n (Some fetch)) = ⊥
 IsBare (Plans n x) = ⊥
 IsBare Runs = Unit {0}
+IsBare (Told old new) = Unit {0}
 IsBare (Tells answer) = Unit {0}
 
 pub bare_crosses : (n : ℕ) (p : Phase) → IsBare p → IsCrossing n p → ⊥
@@ -173,6 +187,7 @@ bare_crosses n (Waits m None) bare is = is
 bare_crosses n (Waits m (Some fetch)) bare is = bare
 bare_crosses n (Plans m x) bare is = bare
 bare_crosses n Runs bare is = is
+bare_crosses n (Told old new) bare is = is
 bare_crosses n (Tells answer) bare is = is
 
 pub goes_put : (phase : ℕ → Phase) (l : ℕ) (p : Phase) → IsUnanswered (phase l) → (a : ℕ) → Goes (phase a) (put phase l p a)

@@ -10,6 +10,8 @@ pub mod Numbers
 pub mod Once
 pub mod PathWalks
 pub mod Paths
+pub mod PlaceAnswers
+pub mod Placings
 pub mod RowsOnce
 pub mod Standing
 pub mod Transcript

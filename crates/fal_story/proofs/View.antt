@@ -9,11 +9,12 @@ use Rattle.fal_base.specs.declared.event.Actor.TheVariants.{Client, Node, Coord}
 use Rattle.fal_base.specs.declared.inode.Dentry.{Dentry}
 use Rattle.fal_base.specs.declared.key.Key.{Key}
 use Rattle.fal_base.specs.declared.row.Update.{Update}
+use Rattle.fal_base.specs.declared.rule.Rule.{Rule}
 use Rattle.fal_base.specs.Commits.{Commit}
 use Rattle.fal_base.specs.Tree.{Tree}
 use Rattle.fal_dentry.specs.Walk.{Dentries}
 use Rattle.fal_locks.specs.declared.holder.Shut.{Shut}
-use Rattle.fal_place.specs.Placement.{Placement}
+use Rattle.fal_place.specs.Placement.{Placement, Placing}
 use Rattle.fal_base.specs.Marks.{Marks}
 use Rattle.fal_wire.specs.declared.message.Message.{Message}
 use Rattle.fal_story.proofs.Lists.Grown.{slice_get_snoc}
@@ -54,6 +55,10 @@ pub data Work : Type 0 where
   Locks : (lane : ℕ) (keys : List Key) (walks : List Kept) (missing : List ℕ) (rows : List Update) → Work
   -- rows under a directory are being counted; the sum of those that were told
   Counts : (lane : ℕ) (keys : List Key) (walks : List Kept) (missing : List ℕ) (rows : List Update) (dir : ℕ) (updates : List Update) (sum : ℕ) → Work
+  -- nodes are to give away the rows of a name, which is placed; those not yet heard, and the rows that came
+  Blocks : (lane : ℕ) (name : List ℕ) (rule : Rule) (missing : List ℕ) (rows : List Update) → Work
+  -- the name is placed, and nodes are to take the rows that are theirs; the table before, and the nodes not yet heard
+  Lands : (name : List ℕ) (rule : Rule) (old : Placement) (missing : List ℕ) → Work
   -- the operation is decided
   Ends : (keys : List Key) (updates : List Update) (missing : List ℕ) → Work
 
@@ -72,9 +77,14 @@ pub record Operating : Type 0 where
   pub starts : List (ℕ × ℕ)
   pub crossed : ℕ → List Key
 
--- where rows live
+-- where rows live: the recorded table, which is the coordinator's, and the placements that made it;
+-- of each node its table, and the operation and the name of which it has given the rows away; of each lane the table that its client knows
 pub record Mapped : Type 0 where
   pub table : Placement
+  pub placings : List Placing
+  pub tables : ℕ → Placement
+  pub barred : ℕ → Option (ℕ × List ℕ)
+  pub known : ℕ → Placement
 
 pub record View : Type 0 where
   -- of each node: rows, replica, pending fetches, how many it has opened, the last calls taken, and how many inode numbers were drawn

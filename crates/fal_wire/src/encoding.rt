@@ -9,14 +9,17 @@ use crate::writer::{kind, put_body};
 use fal_base::OutOfMemory;
 use std::alloc::Global;
 
-// The bytes of the message: its kind, the version 1, the length of its body, and the body.
-fn record_of(alloc: Global, message: &Message) -> Result<Vec<u8>, OutOfMemory>
+// Most bodies have fewer bytes than this.
+const BODY: usize = 96;
+
+/// The bytes of the message: its kind, the version 1, the length of its body, and the body.
+pub(crate) fn record_of(alloc: Global, message: &Message) -> Result<Vec<u8>, OutOfMemory>
     requires { Fits message.now }
     ensures { IfOk result (λ bytes. bytes.items ≡ spelling message.now) }
 {
-    let mut body = Vec::new(alloc);
+    let mut body = Vec::with_capacity(alloc, BODY)?;
     put_body(&mut body, message)?;
-    let mut record = Vec::new(alloc);
+    let mut record = Vec::with_capacity(alloc, body.len().saturating_add(6))?;
     put_u8(&mut record, kind(message))?;
     put_u8(&mut record, 1)?;
     put_u32(&mut record, body.len() as u32)?;

@@ -5,7 +5,7 @@ ghost use Rattle.std.specs.List.{All};
 ghost use Rattle.fal_wire.specs.Messages.{Fits};
 ghost use Rattle.fal_wire.specs.Letters.{output_of};
 
-use crate::encoding::encode;
+use crate::encoding::record_of;
 use crate::message::Message;
 use fal_base::{Actor, Items, OutOfMemory, Output, OutputList, Point};
 use std::alloc::Global;
@@ -24,8 +24,7 @@ fn output(alloc: Global, letter: &Letter) -> Result<Output, OutOfMemory>
     requires { Fits letter.now.message }
     ensures { IfOk result (λ output. output ≡ output_of letter.now) }
 {
-    let mut bytes = Vec::new(alloc);
-    encode(&letter.message, &mut bytes)?;
+    let bytes = record_of(alloc, &letter.message)?;
     Ok(Output {
         to: letter.to,
         point: letter.point,
@@ -39,6 +38,7 @@ pub fn spelled(alloc: Global, letters: &[Letter]) -> Result<OutputList, OutOfMem
     ensures { IfOk result (λ sent. sent ≡ map output_of letters.now) }
 {
     let mut sent = OutputList::new(alloc);
+    sent.reserve(letters.len())?;
     for letter in letters {
         let output = output(alloc, letter)?;
         sent.push(output)?;

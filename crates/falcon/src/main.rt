@@ -6,7 +6,7 @@ use falcon_run::{Trace, run_serial};
 use std::alloc::AllocError;
 use std::io::ErrorKind;
 use std::process::ExitCode;
-use std::{env, io};
+use std::{env, io, mem};
 
 // The status with want of memory.
 const OUT_OF_MEMORY: u8 = 6;
@@ -31,5 +31,7 @@ fn main(rt: HostRuntime) -> ExitCode {
         events: Vec::new(rt.alloc()),
     };
     let status = run_serial(rt.alloc(), &words, &mut source, &mut sink, &mut trace);
+    // The process ends, and the system takes its memory back at once.
+    mem::forget(trace);
     ExitCode::from(status)
 }

@@ -6,4 +6,3 @@ pub mod ScriptLanes
 pub mod Serials
 pub mod ServedLines
 pub mod Wants
-pub mod Words

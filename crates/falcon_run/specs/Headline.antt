@@ -13,11 +13,13 @@ use Rattle.fal_script.specs.declared.script.Script.{Script}
 use Rattle.fal_script.specs.Configs.{config_of_script, order_of}
 use Rattle.fal_script.specs.Script.{script_of}
 use Rattle.fal_story.specs.Run.{IsLegal}
+use Rattle.fal_words.specs.Asked.{asked_of}
+use Rattle.fal_words.specs.declared.asked.Asked.{Asked}
 use Rattle.falcon_run.specs.Recorded.{IsRecorded, run_text}
 
--- the words are the one word
-abbrev pub IsSerial : List (String Global) → Type 0
-IsSerial words = map string_bytes words ≡ codes "serial" ∷ []
+-- what the words ask for, where they are in the grammar and that is served
+abbrev pub words_ask : List (String Global) → Option Asked
+words_ask words = asked_of (map string_bytes words)
 
 -- the cluster of a script. A batch takes one call
 abbrev pub cluster_of : Script → Config

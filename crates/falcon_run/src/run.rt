@@ -6,8 +6,9 @@ ghost use Rattle.falcon_run.specs.Recorded.{IsRecorded, run_text as run_text_of}
 ghost use Rattle.falcon_run.specs.Serving.{HasCallsFor};
 ghost use Rattle.fal_script.specs.Ranges.{IsSpelledScript};
 ghost use Rattle.fal_story.specs.Clusters.{IsCluster};
+ghost use Rattle.fal_words.specs.declared.asked.Asked.{Asked};
 ghost use Rattle.fal_story.specs.Run.{IsLegal};
-ghost use Rattle.falcon_run.specs.Headline.{IsSerial, cluster_of, usage_line, script_line as script_line_of, fault_line, large_line, ToldFault, GaveTooMuch, IsStatus, Wrote, IsDone, IsCutOff, WantsMemory, owed};
+ghost use Rattle.falcon_run.specs.Headline.{words_ask, cluster_of, usage_line, script_line as script_line_of, fault_line, large_line, ToldFault, GaveTooMuch, IsStatus, Wrote, IsDone, IsCutOff, WantsMemory, owed};
 
 use crate::reading::{Unread, read_script};
 use crate::serving::serve;
@@ -17,6 +18,7 @@ use fal_base::{Config, Event, OutOfMemory};
 use fal_io::{Failed, Sink, Source, put_all};
 use fal_script::{Script, into_config, scripts_are_in_range};
 use fal_story::{Run, calls_in_range_may_run};
+use fal_words::{WordsFault, read_words};
 use std::alloc::Global;
 use std::io::Write;
 
@@ -25,15 +27,6 @@ use std::io::Write;
 pub struct Trace {
     pub config: Option<Config>,
     pub events: Vec<Event>,
-}
-
-fn is_serial(words: &[String]) -> bool
-    ensures { IsTrue result ↔ IsSerial words.now }
-{
-    match words {
-        [word] => word.as_str() == "serial",
-        _ => false,
-    }
 }
 
 // Writes the line of a refusal. Its status stays, unless the sink wants memory.
@@ -129,7 +122,7 @@ fn run_script<K: Sink>(alloc: Global, script: Script, sink: &mut K, trace: &mut 
 ///   call alone, in line order. Every call is answered once. A reply with names is a listing, which holds what stood throughout and nothing that
 ///   never stood; one to a change of placement is by what was placed; every other reply is the plain tree's at one point of the commits between
 ///   the call's sending and its answering.
-/// - 2, `falcon: usage`: the words are not the one word `serial`. Nothing was read.
+/// - 2, `falcon: usage`: the words are not in the grammar, or ask for what is not served yet. Nothing was read.
 /// - 3, `falcon: script line L rule R`: the bytes, within the limit, are not in the grammar. L is the first line that breaks a rule, counted from
 ///   1, and R the lowest rule that it breaks.
 /// - 4, `falcon: read fault`: the source's count of faults rose, and at most 16,777,216 bytes had come.
@@ -152,7 +145,7 @@ pub fn run_serial<S: Source, K: Sink>(
 
     // What each status says of the words and of the bytes that were read.
     ensures done { result ≡ 0 → IsDone (S.left source.old) (S.left source.new) (K.holds sink.old) (K.holds sink.new) trace.new.config trace.new.events.items }
-    ensures usage { result ≡ 2 → (IsSerial words.now → ⊥) × (source.new ≡ source.old) }
+    ensures usage { result ≡ 2 → (words_ask words.now ≡ None) × (source.new ≡ source.old) }
     ensures script { result ≡ 3 → ToldFault (S.left source.old) (S.left source.new) (K.holds sink.old) (K.holds sink.new) (K.faults sink.old) (K.faults sink.new) }
     ensures fault { result ≡ 4 → Rose (S.faults source.old) (S.faults source.new) × Took (S.left source.old) (S.left source.new) (λ n. n ≤ 16777216) }
     ensures cut_off { result ≡ 5 → Rose (K.faults sink.old) (K.faults sink.new) × IsCutOff (S.left source.old) (S.left source.new) (K.holds sink.old) (K.holds sink.new) trace.new.config trace.new.events.items }
@@ -168,12 +161,14 @@ pub fn run_serial<S: Source, K: Sink>(
     ensures untraced { (result ≡ 2) ⊎ (result ≡ 3) ⊎ (result ≡ 4) ⊎ (result ≡ 7) → (trace.new.config ≡ None) × (trace.new.events.items ≡ []) }
 
     // Each status comes where it has to, but for want of memory: other words give 2, and bytes that are told give what they are owed.
-    ensures other_words { (IsSerial words.now → ⊥) → (result ≡ 2) ⊎ (result ≡ 6) }
-    ensures owed { IsSerial words.now → (bytes : List ℕ) → S.left source.old ≡ Some bytes → (Rose (S.faults source.old) (S.faults source.new) → ⊥)
+    ensures other_words { words_ask words.now ≡ None → (result ≡ 2) ⊎ (result ≡ 6) }
+    ensures owed { (asked : Asked) → words_ask words.now ≡ Some asked → (bytes : List ℕ) → S.left source.old ≡ Some bytes → (Rose (S.faults source.old) (S.faults source.new) → ⊥)
         → IsOwed (owed bytes) (K.faults sink.old) (K.faults sink.new) result }
 {
-    if !is_serial(words) {
-        return refuse(sink, b"falcon: usage\n", 2);
+    match read_words(alloc, words) {
+        Ok(_) => {}
+        Err(WordsFault::Usage) => return refuse(sink, b"falcon: usage\n", 2),
+        Err(WordsFault::OutOfMemory) => return 6,
     }
     scripts_are_in_range();
     calls_in_range_may_run();

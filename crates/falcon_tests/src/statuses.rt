@@ -15,14 +15,70 @@ fn with_words(alloc: Global, words: &[&str]) -> Result<Ran, Fail> {
     run_with(alloc, words, whole(alloc, HEADER.as_bytes())?, sink)
 }
 
+// Words, and the status that they come to.
+type Worded = (&'static [&'static str], u8);
+
+const WORDS: [Worded; 41] = [
+    (&["serial"], 0),
+    // a value is the next word, or follows an equals sign; options stand before or after the mode
+    (&["--batch", "1", "serial"], 0),
+    (&["serial", "--batch=1"], 0),
+    (&["serial", "--batch", "01"], 0),
+    (&["--batch=00000000000000000001", "serial"], 0),
+    // after two hyphens stands the mode, or nothing
+    (&["--", "serial"], 0),
+    (&["serial", "--"], 0),
+    (&["--batch", "1", "--", "serial"], 0),
+    (&[], 2),
+    (&["--"], 2),
+    (&["--batch=1"], 2),
+    (&["serial", "serial"], 2),
+    (&["Serial"], 2),
+    (&["serial", ""], 2),
+    (&["serial", "-"], 2),
+    (&["serial", "--", "--"], 2),
+    (&["--", "--", "serial"], 2),
+    (&["--", "serial", "--batch=1"], 2),
+    // a batch takes one call so far, by a number of 1 to 20 digits
+    (&["serial", "--batch=0"], 2),
+    (&["serial", "--batch=2"], 2),
+    (&["serial", "--batch=65"], 2),
+    (&["serial", "--batch=000000000000000000001"], 2),
+    (&["serial", "--batch="], 2),
+    (&["serial", "--batch=+1"], 2),
+    (&["serial", "--batch=1=1"], 2),
+    (&["serial", "--batch"], 2),
+    (&["--batch", "serial"], 2),
+    (&["serial", "--batch", "-1"], 2),
+    (&["serial", "--batch", "--", "1"], 2),
+    (&["serial", "--batch", "1", "--batch=1"], 2),
+    // not served yet, or not in this mode
+    (&["run"], 2),
+    (&["gen"], 2),
+    (&["gen-serial", "--seed=1", "--size=5"], 2),
+    (&["serial", "--chaos", "--seed", "3"], 2),
+    (&["serial", "--verify"], 2),
+    (&["serial", "--seed", "1"], 2),
+    (&["serial", "--size", "3"], 2),
+    // no options of the grammar
+    (&["serial", "--chaos=1"], 2),
+    (&["serial", "--bat=1"], 2),
+    (&["serial", "-b", "1"], 2),
+    (&["serial", "--help"], 2),
+];
+
 #[test]
-fn other_words_are_usage(rt: HostRuntime) -> Result<(), Fail> {
-    let table: [&[&str]; 4] = [&[], &["run"], &["serial", "serial"], &["Serial"]];
-    for words in table {
+fn words_have_their_status(rt: HostRuntime) -> Result<(), Fail> {
+    for (words, status) in &WORDS {
         let ran = with_words(rt.alloc(), words)?;
-        assert_eq!(rt; ran.status, 2);
-        assert_eq!(rt; ran.text.as_slice(), b"falcon: usage\n".as_slice());
-        assert!(rt; !ran.is_traced);
+        let text: &[u8] = if *status == 0 {
+            b"falcon-transcript 1\n"
+        } else {
+            b"falcon: usage\n"
+        };
+        assert_eq!(rt; ran.status, *status);
+        assert!(rt; ran.text.starts_with(text));
+        assert_eq!(rt; ran.is_traced, *status == 0);
     }
     Ok(())
 }

@@ -50,7 +50,7 @@ takes config w h e p c shown posted fit operation newer =
     let unplanned : (n : ℕ) (x : BatchCall) → Waits 255 None ≢ Plans n x = λ n x z. cc in
     let stay : (a : ℕ) → StaysThere h.call h.call h.phase later.phase a = put_all (λ a q. ((q ≡ h.phase a) × (h.call a ≡ h.call a)) ⊎ ((IsHeld 255 (h.phase a) → ⊥) × (h.phase a ≢ Runs))) h.phase l (Waits 255 None)
     (inr ((λ held. subst (IsHeld 255) asked.1 held), (λ runs. let both = sym asked.1 ∙ runs in absurd (cc)))) (λ a _. inl (refl, refl)) in
-    let hosts = hosts_kept h.call h.call h.phase later.phase stay config w.coord shown.good.operation.running shown.beside.hosts in
+    let hosts = hosts_kept h.call h.call h.phase later.phase stay config h.before w.coord shown.good.operation.running shown.beside.hosts in
     let others : Each (λ (k : CallRec). k.id.client ≢ l) w.coord.waiting = each_weaker (WaitsThere h.call h.phase) (λ (k : CallRec). k.id.client ≢ l) w.coord.waiting
     (λ k waits same. let both = sym asked.1 ∙ ap h.phase (sym same) ∙ waits.0 in absurd (cc)) shown.beside.hosts.waiters in (
       later,

@@ -16,7 +16,7 @@ use Rattle.fal_base.specs.Answer.{answer}
 use Rattle.fal_base.specs.Change.{makes}
 use Rattle.fal_base.specs.Commits.{Commit}
 use Rattle.fal_base.specs.Maps.{value_at}
-use Rattle.fal_base.specs.Transcript.{call_of, commits_of, commit_by}
+use Rattle.fal_base.specs.Transcript.{call_of, commits_of, commit_by, is_place}
 use Rattle.fal_coord.specs.declared.stage.Operation.{Operation}
 use Rattle.fal_coord.specs.declared.stage.Stage.{Stage}
 use Rattle.fal_coord.specs.declared.stage.Stage.TheVariants as stage
@@ -43,7 +43,6 @@ use Rattle.fal_story.proofs.Lists.Members.{each_map}
 use Rattle.fal_story.proofs.Phase.{Idle, Tells, Replies, Runs}
 use Rattle.fal_story.proofs.Steps.Carried.{dropped_good, dropped_none}
 use Rattle.fal_story.proofs.Steps.Decided.{IsDecided, decided_commit, decided_good, ended_good}
-use Rattle.fal_story.proofs.Trees.Standing.{table_of}
 use Rattle.fal_story.proofs.View.{View, Ends, now}
 use Rattle.fal_story.specs.Clusters.{IsCluster}
 use Rattle.fal_story.specs.World.{World, put, entries_of}
@@ -55,7 +54,7 @@ some_below (suc nodes) some none = cc
 
 -- the operation stands at a stage in which every node was heard
 module _ (config : Config) (w : World) (h : Ghost) (s : Stage) (operation : Operation) (cluster : IsCluster config) (shown : Shows config w h)
-    (ready : IsReady (work_of s) operation.call.id.client operation.keys) (quiet : awaited s ≡ []) (is : operation.call ≡ h.call operation.call.id.client)
+    (ready : IsReady (work_of h.before s) operation.call.id.client operation.keys) (quiet : awaited s ≡ []) (is : operation.call ≡ h.call operation.call.id.client)
     (good : Good config (seen config w (at_stage w.coord s) h)) where
   abbrev l : ℕ
   l = operation.call.id.client
@@ -74,7 +73,7 @@ module _ (config : Config) (w : World) (h : Ghost) (s : Stage) (operation : Oper
   dropped_off key among = ap (λ r. value_at r key) (put_same before.replica 255 (without_keys w.coord.replica operation.keys)) ∙ dropped_none config before w.coord.replica operation.keys key among
 
   runs : h.phase l ≡ Runs
-  runs = good.operation.running l (ready_of (work_of s) l operation.keys ready)
+  runs = good.operation.running l (ready_of (work_of h.before s) l operation.keys ready)
 
   busy : h.phase l ≢ Idle
   busy idle = let both = sym idle ∙ runs in absurd (cc)
@@ -137,14 +136,14 @@ module _ (config : Config) (w : World) (h : Ghost) (s : Stage) (operation : Oper
         }
 
     fine_commit : (due : ℕ → List Update) (n : ℕ) → IsFineHere config w noted (later reply due) (letter (Node n) (Here 0) (message.Commit w.coord.operation updates))
-    fine_commit due n = record { asking = tt; records = (n, refl); operation = (omega arith, λ _. refl) }
+    fine_commit due n = record { asking = tt; records = (n, refl); operation = (omega arith, λ _. refl); bars = tt; knowing = tt }
 
     fine_reply : (due : ℕ → List Update) → IsFineHere config w noted (later reply due) (reply_letter operation.call (Here 0) reply)
     fine_reply due =
         let here : length w.commits + 0 ≡ length w.commits = omega arith in
         let told : put h.phase l (Tells (Replies (length w.commits) reply)) l ≡ Tells (Replies (length w.commits + 0) reply) =
         put_same h.phase l (Tells (Replies (length w.commits) reply)) ∙ ap (λ k. Tells (Replies k reply)) (sym here) in
-        record { asking = tt; records = (l, refl, (refl, inr (numbered, inr told))); operation = tt }
+        record { asking = tt; records = (l, refl, (refl, inr (numbered, inr told))); operation = tt; bars = tt; knowing = tt }
 
     -- the Commits go to the nodes, and then the answer to the client
     told_all : (due : ℕ → List Update) → InCoord config w noted (later reply due) → All (λ letter. Fits letter.message) (decided w.coord operation updates notes reply).sent → EndsCoord config w (decided w.coord operation updates notes reply)
@@ -159,10 +158,10 @@ module _ (config : Config) (w : World) (h : Ghost) (s : Stage) (operation : Oper
         (later reply due, coord_ends config w h (decided w.coord operation updates notes reply) (later reply due) fit shown (coord_sends_all config w noted (later reply due) (commits ++ answer ∷ []) fine step))
 
   -- the operation changes nothing
-  pub ends_unchanged : (reply : Reply) → reply ≡ answer (now before) (h.call l).cred (h.call l).op → makes (now before) (h.call l).cred (h.call l).op ≡ false
+  pub ends_unchanged : (reply : Reply) → is_place (h.call l).op ≡ false → reply ≡ answer (now before) (h.call l).cred (h.call l).op → makes (now before) (h.call l).cred (h.call l).op ≡ false
       → All (λ letter. Fits letter.message) (decided w.coord operation [] [] reply).sent → EndsCoord config w (decided w.coord operation [] [] reply)
-  ends_unchanged reply answered unmade fit =
-      let ended = ended_good config dropped l operation.keys reply ready unmade answered dropped_there in
+  ends_unchanged reply tree answered unmade fit =
+      let ended = ended_good config dropped l operation.keys reply ready tree unmade answered dropped_there in
       told_all [] [] reply h.due (concluded [] [] reply h.due w.entries w.commits (sym (append-nil w.entries)) (sym (append-nil w.commits)) ended) fit
 
   -- or makes its commit
@@ -170,7 +169,7 @@ module _ (config : Config) (w : World) (h : Ghost) (s : Stage) (operation : Oper
       → All (λ letter. Fits letter.message) (decided w.coord operation updates (commit_note operation ∷ []) reply.Fine).sent → EndsCoord config w (decided w.coord operation updates (commit_note operation ∷ []) reply.Fine)
   ends_changed updates is_decided fit =
       let made = decided_good config dropped l operation.keys updates is_decided dropped_there in
-      let due : ℕ → List Update = λ n. owned (table_of config) n updates in
+      let due : ℕ → List Update = λ n. owned w.coord.table n updates in
       told_all updates (commit_note operation ∷ []) reply.Fine due
       (concluded updates (commit_note operation ∷ []) reply.Fine due (w.entries ++ entry.Commit l ((w.clients l).seq) 0 ∷ []) (w.commits ++ decided_commit dropped l ∷ [])
       (ap (λ s. w.entries ++ entry.Commit l s 0 ∷ []) (sym numbered))

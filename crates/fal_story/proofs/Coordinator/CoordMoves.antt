@@ -11,7 +11,7 @@ use Rattle.fal_story.proofs.Events.HeldCalls.{heard_moves, put_moves}
 use Rattle.fal_story.proofs.Events.Shows.{Held, Heard, Holds, PlannedAt, WaitsAt, WaitsThere, lane_of, planned_lane}
 use Rattle.fal_story.proofs.Lists.Each.{Each, each_both, each_weaker}
 use Rattle.fal_story.proofs.Lists.Grown.{from_put, put_other}
-use Rattle.fal_story.proofs.Phase.{Phase, Idle, Asked, Waits, Plans, Runs, Tells, IsFor}
+use Rattle.fal_story.proofs.Phase.{Phase, Idle, Asked, Waits, Plans, Runs, Tells, IsFor, Told}
 use Rattle.fal_story.specs.World.{World, put}
 
 -- it was sent to the coordinator, or waits there
@@ -21,6 +21,7 @@ IsThere (Asked n) = n ≡ 255
 IsThere (Waits n f) = n ≡ 255
 IsThere (Plans n x) = ⊥
 IsThere Runs = ⊥
+IsThere (Told old new) = ⊥
 IsThere (Tells answer) = ⊥
 
 for_there : (p : Phase) → IsThere p → IsFor 255 p
@@ -29,6 +30,7 @@ for_there (Asked n) is = is
 for_there (Waits n f) is = is
 for_there (Plans n x) is = absurd is
 for_there Runs is = is
+for_there (Told old new) is = is
 for_there (Tells answer) is = is
 
 module _ (call : ℕ → CallRec) (phase : ℕ → Phase) (l : ℕ) (q : Phase) (there : IsThere (phase l)) (busy : q ≢ Idle) (unplanned : (n : ℕ) (x : BatchCall) → q ≢ Plans n x) where

@@ -28,7 +28,7 @@ use Rattle.fal_wire.specs.Letters.{letter}
 use Rattle.fal_story.proofs.Coordinator.AtStage.{both_so, comes_to, hosts_at, seen, seen_at, stays, stays_at}
 use Rattle.fal_story.proofs.Coordinator.Concludes.{dropped_off, dropped_there, ends_changed, ends_unchanged, some_below}
 use Rattle.fal_story.proofs.Coordinator.CoordSends.{IsFineHere, coord_sends_all}
-use Rattle.fal_story.proofs.Coordinator.Suited.{IsSuited, is_suited}
+use Rattle.fal_story.proofs.Coordinator.Suited.{suited_tree, IsSuited, is_suited}
 use Rattle.fal_story.proofs.Events.Doing.{kept_of}
 use Rattle.fal_story.proofs.Events.GotEvent.{AllFit}
 use Rattle.fal_story.proofs.Events.InCoord.{EndsCoord, coord_ends}
@@ -74,7 +74,7 @@ module _ (config : Config) (w : World) (h : Ghost) (operation : Operation) (rows
   says j judges = subst (SaysOfTree (now locked) cred op) (suited.judged rows ∙ judges) (says_locked config locked l operation.keys (kept_of operation) rows suited.walks suited.fits suited.locked good refl)
 
   unchanged : (reply : Reply) → reply ≡ answer (now locked) cred op → makes (now locked) cred op ≡ false → AllFit (decided w.coord operation [] [] reply).sent → EndsCoord config w (decided w.coord operation [] [] reply)
-  unchanged reply answered unmade fit = ends_unchanged config w h (stage.Lock operation [] rows) operation cluster shown (refl, refl, refl) refl is good reply answered unmade fit
+  unchanged reply answered unmade fit = ends_unchanged config w h (stage.Lock operation [] rows) operation cluster shown (refl, refl, refl) refl is good reply (suited_tree operation (h.call l) suited) answered unmade fit
 
   changed : (updates : List Update) → verdict_on operation rows ≡ judged.Change updates → AllFit (judged_work w.coord operation rows (judged.Change updates)).sent → EndsCoord config w (judged_work w.coord operation rows (judged.Change updates))
   changed updates judges fit =
@@ -99,7 +99,7 @@ module _ (config : Config) (w : World) (h : Ghost) (operation : Operation) (rows
       let step = comes_to config w h shown coord there (record { table = hosts.table; waiters = hosts.waiters; apart = hosts.apart; current = (is, suits, some_below w.coord.table.nodes (omega arith), judges) }) in
       let fine = each_map (IsFineHere config w (begun coord) h) (λ (n : ℕ). letter (Node n) (Here 0) (message.Count w.coord.operation dir)) (range_with_len 0 w.coord.table.nodes)
       (each_always (λ (n : ℕ). IsFineHere config w (begun coord) h (letter (Node n) (Here 0) (message.Count w.coord.operation dir)))
-      (λ n. record { asking = tt; records = (n, refl); operation = (omega arith, λ _. refl) }) (range_with_len 0 w.coord.table.nodes)) in
+      (λ n. record { asking = tt; records = (n, refl); operation = (omega arith, λ _. refl); bars = tt; knowing = tt }) (range_with_len 0 w.coord.table.nodes)) in
       (h, coord_ends config w h (counting w.coord operation rows dir updates) h fit shown (coord_sends_all config w (begun coord) h (to_nodes w.coord.table.nodes (message.Count w.coord.operation dir)) fine step))
 
   judges : (j : Judged) → verdict_on operation rows ≡ j → AllFit (judged_work w.coord operation rows j).sent → EndsCoord config w (judged_work w.coord operation rows j)

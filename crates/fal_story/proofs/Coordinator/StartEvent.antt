@@ -43,7 +43,7 @@ module _ (config : Config) (w : World) (h : Ghost) (cluster : IsCluster config) 
         let v = view_of config w h in
         let waits = subst (Each (WaitsThere h.call h.phase)) first shown.beside.hosts.waiters in
         let apart = subst (Apart (λ (k : CallRec). k.id.client)) first shown.beside.hosts.apart in
-        let good = started_good config v l (ap work_of idle) (λ past. subst IsPast waits.0.0 past) shown.good in
+        let good = started_good config v l (ap (work_of h.before) idle) (λ past. subst IsPast waits.0.0 past) shown.good in
         let same : record v { op = record v.op { operation = v.op.operation + 1; work = Walks l; starts = v.op.starts ++ (l, v.seq l) ∷ [] } } ≡ walking config w (started w.coord calls) later l =
         λ i. record (walking config w (started w.coord calls) later l) { fetches = put (λ m. askings_of (w.nodes m).waiting.fetches) 255 (ap awaited idle i) } in
         record {

@@ -1,11 +1,13 @@
 -- An operation whose call and walks suit each other: what is kept of its walks is what the verdict takes, and the keys that it locks are their last ones.
-use Rattle.std.proofs.Common.{◌≡◌, ℕ, true, false, ◌||◌, List, [], ◌∷◌, IsTrue, refl, sym, ap, ◌∙◌, subst}
+use Rattle.std.proofs.Common.{◌≡◌, ℕ, true, false, ◌||◌, List, [], ◌∷◌, Option, IsTrue, refl, sym, ap, ◌∙◌, subst}
 use Rattle.fal_base.specs.declared.call.CallRec.{CallRec}
+use Rattle.fal_base.specs.declared.inode.Dentry.{Dentry}
 use Rattle.fal_base.specs.declared.key.Key.{Key}
 use Rattle.fal_base.specs.declared.op.Op.{Op}
 use Rattle.fal_base.specs.declared.op.Op.TheVariants as op
 use Rattle.fal_base.specs.declared.path.PathArg.TheVariants.{Good as GoodPath}
 use Rattle.fal_base.specs.declared.row.Update.{Update}
+use Rattle.fal_base.specs.Transcript.{is_place}
 use Rattle.fal_base.specs.Tree.{same_key}
 use Rattle.fal_batch.proofs.KeyLists.{among_all}
 use Rattle.fal_coord.specs.declared.stage.Operation.{Operation}
@@ -71,6 +73,14 @@ pub record IsSuited (operation : Operation) (call : CallRec) : Type 0 where
   pub fits : IsTrue (is_for_rows call.op (parents_of (kept_of operation)))
   pub locked : (key : Key) → is_among key (lasts_of (kept_of operation)) ≡ true → is_among key operation.keys ≡ true
   pub judged : (rows : List Update) → verdict_of call.cred call.op (parents_of (kept_of operation)) (passed_of (kept_of operation)) rows ≡ verdict_on operation rows
+
+rows_tree : (o : Op) (parents : List (Option Dentry)) → IsTrue (is_for_rows o parents) → is_place o ≡ false
+rows_tree (op.Place name rule) parents fits = absurd (cc)
+rows_tree other parents fits = refl
+
+-- it is about the tree
+pub suited_tree : (operation : Operation) (call : CallRec) → IsSuited operation call → is_place call.op ≡ false
+suited_tree operation call is = rows_tree call.op (parents_of (kept_of operation)) is.fits
 
 pub is_suited : (operation : Operation) (call : CallRec) → operation.call ≡ call → Suits operation → IsSuited operation call
 is_suited operation call same suits =

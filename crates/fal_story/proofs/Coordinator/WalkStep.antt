@@ -44,7 +44,7 @@ use Rattle.fal_story.proofs.Steps.Carried.{locking_good}
 use Rattle.fal_story.proofs.Steps.PathsMet.{AreMet, met_paths}
 use Rattle.fal_story.proofs.Steps.Walked.{IsLacking, crossed_now, lacking_good, pended}
 use Rattle.fal_story.proofs.Trees.PathWalks.{first_stop, operation_paths_are, paths_stopped}
-use Rattle.fal_story.proofs.Trees.Standing.{Reaches, call_paths, reaches, table_of, tree_now}
+use Rattle.fal_story.proofs.Trees.Standing.{Reaches, call_paths, reaches, tree_now}
 use Rattle.fal_story.proofs.View.{View, Locks, post}
 use Rattle.fal_story.specs.Clusters.{IsCluster}
 use Rattle.fal_story.specs.World.{World, put}
@@ -96,11 +96,10 @@ module _ (config : Config) (w : World) (coord : CoordState) (h h0 : Ghost) (c : 
       let lacks : IsLacking config v l key (length w.commits + 0) = record { few = omega arith; work = refl; waits = s.waits; none = refl; lacks = comes_to key is } in
       let good = lacking_good config v l key (length w.commits + 0) lacks s.good in
       let k = asking coord c key in
-      let same : record (pended config v l key (length w.commits + 0)) { posts = v.posts ++ post (Node (owner (table_of config) key)) (length w.commits + 0) (message.FetchAsk 255 coord.asked key) ∷ [] } ≡ view_at config w k later =
+      let same : record (pended config v l key (length w.commits + 0)) { posts = v.posts ++ post (Node (owner coord.table key)) (length w.commits + 0) (message.FetchAsk 255 coord.asked key) ∷ [] } ≡ view_at config w k later =
       λ i. record (view_at config w k later) {
         fetches = put_put (λ m. askings_of (w.nodes m).waiting.fetches) 255 [] (record { number = coord.asked; key = key } ∷ []) i;
         opened = put_put (λ m. (w.nodes m).waiting.opened) 255 coord.asked (coord.asked + 1) i;
-        posts = posts_of w.envelopes ++ post (Node (owner (sym s.table i) key)) (length w.commits + 0) (message.FetchAsk 255 coord.asked key) ∷ [];
         entries = sym (append-nil w.entries) i;
         commits = sym (append-nil w.commits) i;
       } in (
@@ -147,7 +146,7 @@ module _ (config : Config) (w : World) (coord : CoordState) (h h0 : Ghost) (c : 
         (s.is, suits, some_below coord.table.nodes (omega arith)) (subst (Good config) same good)
 
     lock_fine : (n : ℕ) → n < config.nodes → IsFineHere config w at then (letter (Node n) (Here 0) (message.Lock coord.operation keys))
-    lock_fine n below = record { asking = tt; records = (n, refl); operation = (n, refl, below, inr (refl, refl)) }
+    lock_fine n below = record { asking = tt; records = (n, refl); operation = (n, refl, below, inr (refl, refl)); bars = tt; knowing = tt }
 
     sends_locks : AllFit (locking coord c keys walks).sent → EndsCoord config w (locking coord c keys walks)
     unfolding locking

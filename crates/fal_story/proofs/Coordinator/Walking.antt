@@ -112,5 +112,5 @@ module _ (config : Config) (w : World) (coord : CoordState) (h : Ghost) (c : Cal
       let letter = reply_letter c point (Fail errno) in (
         later,
         coord_ends config w h0 (given_up coord c point errno) later fit shown
-            (coord_sends config w rested later letter (record { asking = tt; records = (l, refl, (refl, inr (numbered, inr (put_same h.phase l q)))); operation = tt }) step),
+            (coord_sends config w rested later letter (record { asking = tt; records = (l, refl, (refl, inr (numbered, inr (put_same h.phase l q)))); operation = tt; bars = tt; knowing = tt }) step),
       )

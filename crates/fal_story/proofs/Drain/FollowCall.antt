@@ -41,13 +41,13 @@ use Rattle.fal_story.proofs.Drain.Moving.{IsMoving}
 use Rattle.fal_story.proofs.Drain.MovingDeliver.{IsComing, no_seat}
 use Rattle.fal_story.proofs.Drain.MovingGot.{node_of}
 use Rattle.fal_story.proofs.Drain.MovingServe.{After}
+use Rattle.fal_story.proofs.Events.FirstTable.{sent_there}
 use Rattle.fal_story.proofs.Events.Shows.{Ghost, Shows, posts_of}
 use Rattle.fal_story.proofs.Lists.Grown.{tells, put_other}
 use Rattle.fal_story.proofs.Lists.Joined.{in_last}
 use Rattle.fal_story.proofs.Lists.Members.{IsIn, in_front}
 use Rattle.fal_story.proofs.Lists.Newer.{mark_cases, not_newer_itself}
 use Rattle.fal_story.proofs.Phase.{Idle, Asked, IsFor}
-use Rattle.fal_story.proofs.Trees.Standing.{table_of}
 use Rattle.fal_story.proofs.View.{Post, IsPosted, post}
 use Rattle.fal_story.specs.Clusters.{is_served}
 use Rattle.fal_story.specs.World.{World, put}
@@ -95,8 +95,8 @@ row_by : (config : Config) (w : World) (n : ℕ) (h : Ghost) (c : CallRec) → n
 row_by config w n h c there s is =
     let l = c.id.client in
     let busy : h.phase l ≢ Idle = (λ e. let wrong : Idle ≡ Asked n = sym e ∙ is.1 in absurd (cc)) in
-    let to = s.good.lanes.routed l n there (subst (IsFor n) (sym is.1) refl) in
-    subst (λ (d : CallRec). is_some (row_names d.op) ≡ true) (sym is.0) (row_some (table_of config) n (h.call l).op (s.good.lanes.under_way.served l busy) (s.good.lanes.under_way.fits l busy) to)
+    let to = sent_there config w h s l n there (subst (IsFor n) (sym is.1) refl) in
+    subst (λ (d : CallRec). is_some (row_names d.op) ≡ true) (sym is.0) (row_some w.coord.table n (h.call l).op (s.good.lanes.under_way.served l busy) (s.good.lanes.under_way.fits l busy) to)
 
 pub same_posted : (posts : List Post) (e n p q : ℕ) (a b : CallRec) → IsPosted posts e (Node n) p (message.Call a) → IsPosted posts e (Node n) q (message.Call b) → a ≡ b
 same_posted posts e n p q a b x y = let m : Some (message.Call a) ≡ Some (message.Call b) = ap (λ (z : Post). z.message) (same_Some (post (Node n) p (message.Call a)) (post (Node n) q (message.Call b)) (sym x ∙ y)) in cc

@@ -50,7 +50,7 @@ use Rattle.fal_story.proofs.Drain.MovingClient.{AfterClient, next_call}
 use Rattle.fal_story.proofs.Drain.Actors.{route_there}
 use Rattle.fal_story.proofs.Drain.MovingDeliver.{post_at, same_node}
 use Rattle.fal_story.proofs.Drain.Sent.{slice_get_back, posts_long}
-use Rattle.fal_story.proofs.Events.ClientEvent.{call_is, served_at}
+use Rattle.fal_story.proofs.Events.ServedCalls.{call_is, served_at}
 use Rattle.fal_story.proofs.Events.EnabledClient.{sends, gets, gets_own, IsUnheard}
 use Rattle.fal_story.proofs.Events.Shows.{Ghost, Shows, post_of, posts_of}
 use Rattle.fal_story.proofs.Lists.Grown.{tells, put_all, put_other, slice_get_end}

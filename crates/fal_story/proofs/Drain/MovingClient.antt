@@ -17,7 +17,7 @@ use Rattle.fal_story.proofs.Drain.MovingDeliver.{post_at, came_past}
 use Rattle.fal_story.proofs.Drain.Fresh.{IsFresh, fresh_comes}
 use Rattle.fal_story.proofs.Drain.OnWay.{IsOnWay, way_comes}
 use Rattle.fal_story.proofs.Drain.Staged.{AreFreshStill, still_here}
-use Rattle.fal_story.proofs.Events.ClientEvent.{call_is}
+use Rattle.fal_story.proofs.Events.ServedCalls.{call_is}
 use Rattle.fal_story.proofs.Events.EnabledClient.{sends, gets, gets_own}
 use Rattle.fal_story.proofs.Events.Shows.{Ghost, Shows, post_of, posts_of}
 use Rattle.fal_story.proofs.View.{Post, seat}

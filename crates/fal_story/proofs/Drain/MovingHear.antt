@@ -34,7 +34,6 @@ use Rattle.fal_wire.specs.declared.message.Message.{Message}
 use Rattle.fal_wire.specs.declared.message.Message.TheVariants as message
 use Rattle.fal_wire.specs.Letters.{reply_letter}
 use Rattle.fal_wire.specs.Messages.{Fits, reading}
-use Rattle.fal_story.proofs.Drain.Actors.{owner_there}
 use Rattle.fal_story.proofs.Drain.Fresh.{IsFresh, fresh_more, fresh_comes}
 use Rattle.fal_story.proofs.Drain.Moving.{IsMoving, IsPast, items_in}
 use Rattle.fal_story.proofs.Drain.MovingCoord.{IsWell, both_are, posts_at, coord_moves, idle_well, walk_well, judged_well}
@@ -45,10 +44,9 @@ use Rattle.fal_story.proofs.Events.Doing.{work_of}
 use Rattle.fal_story.proofs.Events.InCoord.{coord_after}
 use Rattle.fal_story.proofs.Events.InStep.{letter_posts}
 use Rattle.fal_story.proofs.Events.Shows.{Ghost, Shows, IsCurrent, post_of, posts_of}
-use Rattle.fal_place.specs.Placement.{owner}
 use Rattle.fal_story.proofs.Families.Operation.{IsOf, shut_by, ToldLocked}
 use Rattle.fal_story.proofs.Lists.Members.{same_number}
-use Rattle.fal_story.proofs.Trees.Standing.{table_of, tree_now}
+use Rattle.fal_story.proofs.Trees.Standing.{tree_now}
 use Rattle.fal_story.proofs.View.{IsPosted, Post, seat}
 use Rattle.fal_story.specs.Clusters.{IsCluster, is_lane}
 use Rattle.fal_story.specs.World.{World, put}
@@ -82,9 +80,9 @@ module _ (config : Config) (w : World) (came : ℕ → Bool) (e : ℕ) (x : Enve
       (way_comes old came (items_in w) e (post_of x) n f (IsOnWay old later (items_in w) n f) (post_at w.envelopes e x c.at) (λ still. still)
       (λ p to key is.
       let owned = s.good.asking.owners e p n f (Node to) key (post_at w.envelopes e x c.at ∙ ap Some is) in
-      let low = owner_there config key cluster in
+      let low = owned.2 in
       let few = m.few in
-      let here : 255 ≡ owner (table_of config) key = same_node 255 (owner (table_of config) key) (sym (ap seat c.to) ∙ ap (λ (z : Post). z.to) is ∙ owned) in
+      let here : 255 ≡ owned.0 = same_node 255 owned.0 (sym (ap seat c.to) ∙ ap (λ (z : Post). z.to) is ∙ owned.1) in
       absurd (omega arith))
       (λ p key what is. absurd (none (same_node n 255 (sym (ap (λ (z : Post). z.to) is) ∙ ap seat c.to)) key what (ap (λ (z : Post). z.message) is)))
       o)
@@ -220,13 +218,13 @@ module _ (config : Config) (w : World) (came : ℕ → Bool) (e : ℕ) (x : Enve
 
   locked_well : (number node : ℕ) (told : List Update) (t : Stage) → w.coord.stage ≡ t → reading x.bytes ≡ Ok (message.Locked number node told) → IsWell config w later (take_locked w.coord number node told t)
   locked_well number node told (stage.Lock operation missing rows) at read =
-      let lane = runs_there config w h s operation.call.id.client (subst (λ t. IsOf operation.call.id.client (work_of t)) (sym at) refl) in
+      let lane = runs_there config w h s operation.call.id.client (subst (λ t. IsOf operation.call.id.client (work_of h.before t)) (sym at) refl) in
       elim ((number == w.coord.operation) && is_missing node missing) as (λ b. ((number == w.coord.operation) && is_missing node missing) ≡ b
       → IsWell config w later (cond b (lock_heard w.coord operation (rows ++ told) (without_node node missing)) (begun w.coord))) [
         | true ↦ λ is.
             let both = both_are (number == w.coord.operation) (is_missing node missing) is in
             let posted = s.good.operation.told e x.point (Node 255) (message.Locked number node told) (posted_here (message.Locked number node told) read) in
-            let shut = (subst (λ t. ToldLocked (table_of config) (tree_now w.commits) w.coord.operation (work_of t) (w.nodes node).locks.shut node told) at (posted.1 (same_number number w.coord.operation both.0))).0 in
+            let shut = (subst (λ t. ToldLocked w.coord.table (tree_now w.commits) w.coord.operation (work_of h.before t) (w.nodes node).locks.shut node told) at (posted.1 (same_number number w.coord.operation both.0))).0 in
             elim (without_node node missing) as (λ ms. without_node node missing ≡ ms → IsWell config w later (lock_heard w.coord operation (rows ++ told) ms)) [
               | [] ↦ λ last. judged_well config w later cluster here_past w.coord operation (rows ++ told) (verdict_on operation (rows ++ told)) s.beside.hosts.table lane
                   (λ n there. all_shut n there operation missing rows node at last shut)
@@ -247,7 +245,7 @@ module _ (config : Config) (w : World) (came : ℕ → Bool) (e : ℕ) (x : Enve
   counted_well : (number node count : ℕ) (t : Stage) → w.coord.stage ≡ t → reading x.bytes ≡ Ok (message.Counted number node count) → IsWell config w later (take_counted w.coord number node count t)
   counted_well number node count (stage.Count operation rows dir updates missing counts) at read =
       let t = stage.Count operation rows dir updates missing counts in
-      let lane = runs_there config w h s operation.call.id.client (subst (λ t. IsOf operation.call.id.client (work_of t)) (sym at) refl) in
+      let lane = runs_there config w h s operation.call.id.client (subst (λ t. IsOf operation.call.id.client (work_of h.before t)) (sym at) refl) in
       elim ((number == w.coord.operation) && is_missing node missing) as (λ b. ((number == w.coord.operation) && is_missing node missing) ≡ b
       → IsWell config w later (cond b (count_heard w.coord operation rows dir updates (counts ++ count ∷ []) (without_node node missing)) (begun w.coord))) [
         | true ↦ λ is.

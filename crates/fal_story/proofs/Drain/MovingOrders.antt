@@ -39,7 +39,6 @@ use Rattle.fal_story.proofs.Events.Shows.{Ghost, Shows, post_of, posts_of}
 use Rattle.fal_story.proofs.Families.Operation.{Stands}
 use Rattle.fal_story.proofs.Lists.Each.{each_join}
 use Rattle.fal_story.proofs.Lists.Members.{in_front, same_number}
-use Rattle.fal_story.proofs.Trees.Standing.{table_of}
 use Rattle.fal_story.proofs.View.{Post, seat}
 use Rattle.fal_story.specs.World.{World, put}
 
@@ -114,17 +113,17 @@ module _ (config : Config) (w : World) (came : ℕ → Bool) (n e : ℕ) (x : En
   -- ---- a Count
 
   -- where the node has shut the keys of the operation, its answer goes out
-  count_hearing : (table : Placement) (s : Stage) (number operation dir : ℕ) (queued : Option Message) (due : List Update) (k : Work) → Stands table number (work_of s) n (w.nodes n).locks.shut queued (w.nodes n).last_operation due
+  count_hearing : (table before : Placement) (s : Stage) (number operation dir : ℕ) (queued : Option Message) (due : List Update) (k : Work) → Stands table number (work_of before s) n (w.nodes n).locks.shut queued (w.nodes n).last_operation due
       → reading x.bytes ≡ Ok (message.Count operation dir) → k.node ≡ w.nodes n
       → (is_of (w.nodes n).locks.shut operation ≡ true → (count : ℕ) × IsFresh (posts_after w k) later (Node 255) (message.Counted operation n count))
       → IsHearing old came number s n (w.nodes n) → IsHearing (posts_after w k) later number s n k.node
-  count_hearing table stage.Idle number operation dir queued due k stands read same told h = tt
-  count_hearing table (stage.Walk call fetch key) number operation dir queued due k stands read same told h = tt
-  count_hearing table (stage.Lock o missing rows) number operation dir queued due k stands read same told h = record {
+  count_hearing table before stage.Idle number operation dir queued due k stands read same told h = tt
+  count_hearing table before (stage.Walk call fetch key) number operation dir queued due k stands read same told h = tt
+  count_hearing table before (stage.Lock o missing rows) number operation dir queued due k stands read same told h = record {
     away = λ is. to_node k (message.Count operation dir) (message.Lock number o.keys) read (h.away (subst (λ (y : NodeState). y.last_operation < number) same is)) (λ e. cc);
     shut = λ some. let heard = h.shut (λ none. some (ap (λ (y : NodeState). y.locks.shut) same ∙ none)) in (heard.0, to_coord k (message.Locked number n heard.0) refl heard.1);
   }
-  count_hearing table (stage.Count o rows asked updates missing counts) number operation dir queued due k stands read same told h =
+  count_hearing table before (stage.Count o rows asked updates missing counts) number operation dir queued due k stands read same told h =
       ⊎_elim
       (λ f. elim (operation == number) as (λ b. (operation == number) ≡ b → IsHearing (posts_after w k) later number (stage.Count o rows asked updates missing counts) n k.node) [
         | true ↦ λ is.
@@ -137,7 +136,7 @@ module _ (config : Config) (w : World) (came : ℕ → Bool) (n e : ℕ) (x : En
     where
       itself : (i : ℕ) → (i == i) ≡ true
       itself i = grind (arith, nat_tests)
-  count_hearing table (stage.Finish locked updates missing) number operation dir queued due k stands read same told h = record {
+  count_hearing table before (stage.Finish locked updates missing) number operation dir queued due k stands read same told h = record {
     shut = λ some. to_node k (message.Count operation dir) (message.Commit number updates) read (h.shut (λ none. some (ap (λ (y : NodeState). y.locks.shut) same ∙ none))) (λ e. cc);
     freed = λ none. to_coord k (message.Done number n) refl (h.freed (sym (ap (λ (y : NodeState). y.locks.shut) same) ∙ none));
   }
@@ -154,32 +153,32 @@ module _ (config : Config) (w : World) (came : ℕ → Bool) (n e : ℕ) (x : En
             let sent = letter_fresh w.envelopes later (length w.commits) k.sent told (came_past w.envelopes e x came c.at m.past) (inl refl) in
             order_moves config w came n e x k there m c (no_ask order tt read) (no_got order tt read) fit (tt, tt) (λ y at. at) (m.servable n) (λ posts late items h. h) (m.holders n)
             (comes_hearing w came n e x k (no_seat config w came n there m) c
-            (count_hearing (table_of config) w.coord.stage w.coord.operation operation dir (h.queued n) (h.due n) k (s.good.operation.stands n there) read refl
+            (count_hearing w.coord.table h.before w.coord.stage w.coord.operation operation dir (h.queued n) (h.due n) k (s.good.operation.stands n there) read refl
             (λ _. (length (names_under node.rows dir), subst (λ i. IsFresh (posts_after w k) later (Node 255) (message.Counted operation i (length (names_under node.rows dir)))) (s.placed n).number sent))))
         | false ↦ λ is fit.
             order_moves config w came n e x (begun node) there m c (no_ask order tt read) (no_got order tt read) fit tt (λ y at. at) (m.servable n) (λ posts late items h. h) (m.holders n)
             (comes_hearing w came n e x (begun node) (no_seat config w came n there m) c
-            (count_hearing (table_of config) w.coord.stage w.coord.operation operation dir (h.queued n) (h.due n) (begun node) (s.good.operation.stands n there) read refl (λ yes. absurd (cc))))
+            (count_hearing w.coord.table h.before w.coord.stage w.coord.operation operation dir (h.queued n) (h.due n) (begun node) (s.good.operation.stands n there) read refl (λ yes. absurd (cc))))
       ] refl fit
 
   -- ---- a Commit
 
   -- the keys are opened, and the answer goes out
-  opened_hearing : (table : Placement) (s : Stage) (number operation : ℕ) (made : List Update) (queued : Option Message) (due : List Update) (k : Work)
-      → Stands table number (work_of s) n (w.nodes n).locks.shut queued (w.nodes n).last_operation due → reading x.bytes ≡ Ok (message.Commit operation made) → is_of (w.nodes n).locks.shut operation ≡ true
+  opened_hearing : (table before : Placement) (s : Stage) (number operation : ℕ) (made : List Update) (queued : Option Message) (due : List Update) (k : Work)
+      → Stands table number (work_of before s) n (w.nodes n).locks.shut queued (w.nodes n).last_operation due → reading x.bytes ≡ Ok (message.Commit operation made) → is_of (w.nodes n).locks.shut operation ≡ true
       → k.node.locks.shut ≡ None → k.node.last_operation ≡ (w.nodes n).last_operation → IsFresh (posts_after w k) later (Node 255) (message.Done operation n)
       → IsHearing old came number s n (w.nodes n) → IsHearing (posts_after w k) later number s n k.node
-  opened_hearing table stage.Idle number operation made queued due k stands read is opened last told h = tt
-  opened_hearing table (stage.Walk call fetch key) number operation made queued due k stands read is opened last told h = tt
-  opened_hearing table (stage.Lock o missing rows) number operation made queued due k stands read is opened last told h = record {
+  opened_hearing table before stage.Idle number operation made queued due k stands read is opened last told h = tt
+  opened_hearing table before (stage.Walk call fetch key) number operation made queued due k stands read is opened last told h = tt
+  opened_hearing table before (stage.Lock o missing rows) number operation made queued due k stands read is opened last told h = record {
     away = λ low. to_node k (message.Commit operation made) (message.Lock number o.keys) read (h.away (subst (λ (i : ℕ). i < number) last low)) (λ e. cc);
     shut = λ some. absurd (some opened);
   }
-  opened_hearing table (stage.Count o rows dir updates missing counts) number operation made queued due k stands read is opened last told h =
+  opened_hearing table before (stage.Count o rows dir updates missing counts) number operation made queued due k stands read is opened last told h =
       ⊎_elim
       (λ asked. inl (to_node k (message.Commit operation made) (message.Count number dir) read asked (λ same. cc)))
       (λ heard. inr (heard.0, to_coord k (message.Counted number n heard.0) refl heard.1)) h
-  opened_hearing table (stage.Finish locked updates missing) number operation made queued due k stands read is opened last told h =
+  opened_hearing table before (stage.Finish locked updates missing) number operation made queued due k stands read is opened last told h =
       let this : operation ≡ number =
       ⊎_elim
       (λ closed. sym (same_number number operation (sym (ap (λ t. is_of t operation) closed.2.0) ∙ is)))
@@ -191,20 +190,20 @@ module _ (config : Config) (w : World) (came : ℕ → Bool) (n e : ℕ) (x : En
       }
 
   -- it is not the operation's Commit that comes to a node that has shut keys of no such operation
-  closed_hearing : (table : Placement) (s : Stage) (number operation : ℕ) (made : List Update) (queued : Option Message) (due : List Update)
-      → Stands table number (work_of s) n (w.nodes n).locks.shut queued (w.nodes n).last_operation due → reading x.bytes ≡ Ok (message.Commit operation made) → is_of (w.nodes n).locks.shut operation ≡ false
+  closed_hearing : (table before : Placement) (s : Stage) (number operation : ℕ) (made : List Update) (queued : Option Message) (due : List Update)
+      → Stands table number (work_of before s) n (w.nodes n).locks.shut queued (w.nodes n).last_operation due → reading x.bytes ≡ Ok (message.Commit operation made) → is_of (w.nodes n).locks.shut operation ≡ false
       → IsHearing old came number s n (w.nodes n) → IsHearing (posts_after w (begun (w.nodes n))) later number s n (w.nodes n)
-  closed_hearing table stage.Idle number operation made queued due stands read off h = tt
-  closed_hearing table (stage.Walk call fetch key) number operation made queued due stands read off h = tt
-  closed_hearing table (stage.Lock o missing rows) number operation made queued due stands read off h = record {
+  closed_hearing table before stage.Idle number operation made queued due stands read off h = tt
+  closed_hearing table before (stage.Walk call fetch key) number operation made queued due stands read off h = tt
+  closed_hearing table before (stage.Lock o missing rows) number operation made queued due stands read off h = record {
     away = λ low. to_node (begun (w.nodes n)) (message.Commit operation made) (message.Lock number o.keys) read (h.away low) (λ e. cc);
     shut = λ some. let heard = h.shut some in (heard.0, to_coord (begun (w.nodes n)) (message.Locked number n heard.0) refl heard.1);
   }
-  closed_hearing table (stage.Count o rows dir updates missing counts) number operation made queued due stands read off h =
+  closed_hearing table before (stage.Count o rows dir updates missing counts) number operation made queued due stands read off h =
       ⊎_elim
       (λ asked. inl (to_node (begun (w.nodes n)) (message.Commit operation made) (message.Count number dir) read asked (λ same. cc)))
       (λ heard. inr (heard.0, to_coord (begun (w.nodes n)) (message.Counted number n heard.0) refl heard.1)) h
-  closed_hearing table (stage.Finish locked updates missing) number operation made queued due stands read off h = record {
+  closed_hearing table before (stage.Finish locked updates missing) number operation made queued due stands read off h = record {
     shut = λ some. to_node (begun (w.nodes n)) (message.Commit operation made) (message.Commit number updates) read (h.shut some)
         (λ e. let this : operation ≡ number = cc in
         ⊎_elim
@@ -234,10 +233,10 @@ module _ (config : Config) (w : World) (came : ℕ → Bool) (n e : ℕ) (x : En
             let sent = letter_fresh w.envelopes later (length w.commits) k.sent told (came_past w.envelopes e x came c.at m.past) (inl refl) in
             order_moves config w came n e x k there m c (no_ask order tt read) (no_got order tt read) fit (tt, tt) (λ y at. at) (m.servable n) (λ posts late items h. h) (m.holders n)
             (comes_hearing w came n e x k (no_seat config w came n there m) c
-            (opened_hearing (table_of config) w.coord.stage w.coord.operation operation made (h.queued n) (h.due n) k (s.good.operation.stands n there) read is (none_after node.locks.shut operation is) refl
+            (opened_hearing w.coord.table h.before w.coord.stage w.coord.operation operation made (h.queued n) (h.due n) k (s.good.operation.stands n there) read is (none_after node.locks.shut operation is) refl
             (subst (λ i. IsFresh (posts_after w k) later (Node 255) (message.Done operation i)) (s.placed n).number sent)))
         | false ↦ λ is fit.
             order_moves config w came n e x (begun node) there m c (no_ask order tt read) (no_got order tt read) fit tt (λ y at. at) (m.servable n) (λ posts late items h. h) (m.holders n)
             (comes_hearing w came n e x (begun node) (no_seat config w came n there m) c
-            (closed_hearing (table_of config) w.coord.stage w.coord.operation operation made (h.queued n) (h.due n) (s.good.operation.stands n there) read is))
+            (closed_hearing w.coord.table h.before w.coord.stage w.coord.operation operation made (h.queued n) (h.due n) (s.good.operation.stands n there) read is))
       ] refl fit

@@ -34,6 +34,7 @@ use Rattle.fal_story.proofs.Drain.Moving.{IsMoving, IsServable, AreServable, Are
 use Rattle.fal_story.proofs.Drain.OnWay.{IsOnWay, Asks, Keeps, Gets, AreOnWay, items_stay, way_more}
 use Rattle.fal_story.proofs.Drain.Sent.{letter_fresh}
 use Rattle.fal_story.proofs.Drain.Staged.{IsHearing, AreFreshStill, hearing_kept, still_more, still_here}
+use Rattle.fal_story.proofs.Events.FirstTable.{asked_owner, node_table}
 use Rattle.fal_story.proofs.Events.Freed.{lock_listed}
 use Rattle.fal_story.proofs.Events.ServeEvent.{got, fetch_letter_is, asker_seat}
 use Rattle.fal_story.proofs.Events.Doing.{work_of}
@@ -43,7 +44,6 @@ use Rattle.fal_story.proofs.Families.Operation.{Stands}
 use Rattle.fal_story.proofs.Lists.Each.{Each, each_weaker}
 use Rattle.fal_story.proofs.Lists.Grown.{tells, put_all, slice_get_front}
 use Rattle.fal_story.proofs.Lists.Members.{IsIn, find_in, each_in, each_without_first, same_number}
-use Rattle.fal_story.proofs.Trees.Standing.{table_of}
 use Rattle.fal_story.proofs.View.{Post, IsPosted}
 use Rattle.fal_story.specs.World.{World}
 
@@ -149,7 +149,7 @@ question_moves config w came n number asker fetch key h item there s m at asks f
     let posted_at : IsPosted (posts_of w.envelopes) sent.0 (Node n) sent.1.0 (message.FetchAsk asker fetch key) = subst (IsPosted (posts_of w.envelopes) sent.0 (Node n) sent.1.0) asks sent.1.1 in
     let drawn = s.good.asking.numbers.ask sent.0 sent.1.0 (Node n) asker fetch key posted_at in
     let owned : owner node.table key ≡ node.number =
-    ap (λ t. owner t key) (s.placed n).table ∙ sym (same_node n (owner (table_of config) key) (s.good.asking.owners sent.0 sent.1.0 asker fetch (Node n) key posted_at)) ∙ sym (s.placed n).number in
+    ap (λ t. owner t key) (node_table config w h s n) ∙ sym (same_node n (owner w.coord.table key) (asked_owner config w h s sent.0 sent.1.0 asker fetch (Node n) key posted_at)) ∙ sym (s.placed n).number in
     let own : item.number ≡ number = number_of item.number number where_found.0 in
     subst (λ (k : Work). All (λ (l : Letter). Fits l.message) k.sent → IsMoving config (After config w n k) came) (sym (ap (λ y. served_as (service_of node y) item.number) asks)) (λ sent_fit.
     served_moves config w came n asker fetch key (served_as (service_of node (message.FetchAsk asker fetch key)) item.number) there drawn.0 m sent_fit
@@ -176,12 +176,12 @@ lock_queued config w n number h item operation keys s at is =
     listed (Some m) at = ⊎_elim (λ same. ap Some same) (λ none. absurd none) at
 
 -- the coordinator hears of it, if it still waits for the node
-lock_heard : (table : Placement) (number : ℕ) (s : Stage) (n : ℕ) (x y : NodeState) (queued : Option Message) (due : List Update) (posts later_posts : List Post) (came : ℕ → Bool) (operation : ℕ) (keys : List Key) (rows : List Update)
-    → Stands table number (work_of s) n x.locks.shut queued x.last_operation due → queued ≡ Some (message.Lock operation keys) → y.last_operation ≡ x.last_operation
+lock_heard : (table before : Placement) (number : ℕ) (s : Stage) (n : ℕ) (x y : NodeState) (queued : Option Message) (due : List Update) (posts later_posts : List Post) (came : ℕ → Bool) (operation : ℕ) (keys : List Key) (rows : List Update)
+    → Stands table number (work_of before s) n x.locks.shut queued x.last_operation due → queued ≡ Some (message.Lock operation keys) → y.last_operation ≡ x.last_operation
     → AreFreshStill posts later_posts came came n → IsFresh later_posts came (Node 255) (message.Locked operation n rows) → IsHearing posts came number s n x → IsHearing later_posts came number s n y
-lock_heard table number stage.Idle n x y queued due posts later_posts came operation keys rows stands is last still told h = tt
-lock_heard table number (stage.Walk call fetch key) n x y queued due posts later_posts came operation keys rows stands is last still told h = tt
-lock_heard table number (stage.Lock o missing heard) n x y queued due posts later_posts came operation keys rows stands is last still told h =
+lock_heard table before number stage.Idle n x y queued due posts later_posts came operation keys rows stands is last still told h = tt
+lock_heard table before number (stage.Walk call fetch key) n x y queued due posts later_posts came operation keys rows stands is last still told h = tt
+lock_heard table before number (stage.Lock o missing heard) n x y queued due posts later_posts came operation keys rows stands is last still told h =
     let same : operation ≡ number =
     ⊎_elim
     (λ there. ⊎_elim (λ away. let wrong : None ≡ Some (message.Lock operation keys) = sym away.1 ∙ is in absurd (cc)) (λ waits. let both : Some (message.Lock number o.keys) ≡ Some (message.Lock operation keys) = sym waits.1 ∙ is in cc) there.1)
@@ -191,9 +191,9 @@ lock_heard table number (stage.Lock o missing heard) n x y queued due posts late
       away = λ low. still.to (message.Lock number o.keys) tt (h.away (subst (λ (i : ℕ). i < number) last low));
       shut = λ some. (rows, subst (λ i. IsFresh later_posts came (Node 255) (message.Locked i n rows)) same told);
     }
-lock_heard table number (stage.Count o heard dir updates missing counts) n x y queued due posts later_posts came operation keys rows stands is last still told h =
+lock_heard table before number (stage.Count o heard dir updates missing counts) n x y queued due posts later_posts came operation keys rows stands is last still told h =
     let wrong : None ≡ Some (message.Lock operation keys) = sym stands.1.1 ∙ is in absurd (cc)
-lock_heard table number (stage.Finish locked updates missing) n x y queued due posts later_posts came operation keys rows stands is last still told h =
+lock_heard table before number (stage.Finish locked updates missing) n x y queued due posts later_posts came operation keys rows stands is last still told h =
     absurd (⊎_elim
     (λ closed. let wrong : None ≡ Some (message.Lock operation keys) = sym closed.2.1 ∙ is in cc)
     (λ opened. let wrong : None ≡ Some (message.Lock operation keys) = sym opened.2 ∙ is in cc)
@@ -234,7 +234,7 @@ lock_moves config w came n number operation keys h item there s m at is fit =
     let old = posts_of w.envelopes in
     let still = λ (i : ℕ). still_more old old (letter_posts (length w.commits) k.sent) came came i (still_here old came i) in
     let hearing : StaysHearing w came came n k = λ i. put_all (λ i x. IsHearing old came w.coord.operation w.coord.stage i (w.nodes i) → IsHearing (posts_after w k) came w.coord.operation w.coord.stage i x) w.nodes n k.node
-    (lock_heard (table_of config) w.coord.operation w.coord.stage n node k.node (h.queued n) (h.due n) old (posts_after w k) came operation keys rows (s.good.operation.stands n there) queued refl (still n) told)
+    (lock_heard w.coord.table h.before w.coord.operation w.coord.stage n node k.node (h.queued n) (h.due n) old (posts_after w k) came operation keys rows (s.good.operation.stands n there) queued refl (still n) told)
     (λ i _. hearing_kept old (posts_after w k) came came w.coord.operation w.coord.stage i (w.nodes i) (w.nodes i) (still i) refl refl) i in
     node_moves config w came came n k there sent_fit m m.past (tt, tt)
     (none_waits (posts_after w k) came (items_after w n k) n node.waiting.calls)

@@ -33,7 +33,6 @@ use Rattle.fal_story.proofs.Events.Shows.{Ghost, Shows, WaitsThere, view_of, pos
 use Rattle.fal_story.proofs.Families.Operation.{Stands, IsOf, shut_by}
 use Rattle.fal_story.proofs.Lists.Each.{Each}
 use Rattle.fal_story.proofs.Phase.{Idle, Runs, Waits}
-use Rattle.fal_story.proofs.Trees.Standing.{table_of}
 use Rattle.fal_story.specs.Clusters.{IsCluster, is_lane}
 use Rattle.fal_story.specs.World.{World}
 
@@ -41,7 +40,7 @@ use Rattle.fal_story.specs.World.{World}
 
 module _ (config : Config) (w : World) (h : Ghost) (s : Shows config w h) where
   abbrev pub StandsAt : Stage → ℕ → Type 0
-  StandsAt t n = Stands (table_of config) w.coord.operation (work_of t) n (w.nodes n).locks.shut (h.queued n) (w.nodes n).last_operation (h.due n)
+  StandsAt t n = Stands w.coord.table w.coord.operation (work_of h.before t) n (w.nodes n).locks.shut (h.queued n) (w.nodes n).last_operation (h.due n)
 
   pub stands_at : (t : Stage) (n : ℕ) → w.coord.stage ≡ t → n < config.nodes → StandsAt t n
   stands_at t n at there = subst (λ t. StandsAt t n) at (s.good.operation.stands n there)
@@ -69,7 +68,7 @@ module _ (config : Config) (w : World) (h : Ghost) (s : Shows config w h) where
   pub waits_there : (l : ℕ) (fetch : Option ℕ) → h.phase l ≡ Waits 255 fetch → IsTrue (is_lane config l)
   waits_there l fetch is = lane_there config (view_of config w h) l s.good (λ e. let wrong : Idle ≡ Waits 255 fetch = sym e ∙ is in absurd (cc))
 
-  pub runs_there : (l : ℕ) → IsOf l (work_of w.coord.stage) → IsTrue (is_lane config l)
+  pub runs_there : (l : ℕ) → IsOf l (work_of h.before w.coord.stage) → IsTrue (is_lane config l)
   runs_there l is = lane_there config (view_of config w h) l s.good (λ e. let wrong : Idle ≡ Runs = sym e ∙ s.good.operation.running l is in absurd (cc))
 
 -- ---- Start

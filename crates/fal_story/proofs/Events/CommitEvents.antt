@@ -17,6 +17,7 @@ use Rattle.fal_node.specs.State.{is_of}
 use Rattle.fal_wire.specs.Letters.{letter}
 use Rattle.fal_wire.specs.declared.message.Message.TheVariants as message
 use Rattle.fal_story.proofs.Events.Besides.{beside_still}
+use Rattle.fal_story.proofs.Events.FirstTable.{node_table}
 use Rattle.fal_story.proofs.Events.Freed.{beside_freed}
 use Rattle.fal_story.proofs.Events.GotEvent.{AllFit, stays}
 use Rattle.fal_story.proofs.Events.InStep.{InStep, view_begun, view_in, Ends, begins, ends}
@@ -29,7 +30,7 @@ use Rattle.fal_story.proofs.Steps.Arrives.{MayCount, count_comes, commit_comes}
 use Rattle.fal_story.proofs.Steps.Counting.{counts_rows}
 use Rattle.fal_story.proofs.Steps.Posted.{IsFine}
 use Rattle.fal_story.proofs.Steps.Reopened.{reopened_good}
-use Rattle.fal_story.proofs.View.{View, IsPosted, Work as Doing, Rests, Walks, Locks, Counts, Ends as EndsAt, now}
+use Rattle.fal_story.proofs.View.{View, IsPosted, Work as Doing, Rests, Walks, Locks, Counts, Ends as EndsAt, now, Blocks, Lands}
 use Rattle.fal_story.specs.World.{World, put}
 
 -- the keys that an operation has shut
@@ -46,6 +47,8 @@ told_of config v n dir (Walks lane) may g = absurd may
 told_of config v n dir (Locks lane keys walks missing rows) may g = absurd may
 told_of config v n dir (Counts lane keys walks missing rows under updates sum) may g =
     subst (λ d. IsCounted v.map.table (now v) n d (length (names_under (v.rows n) dir))) (sym may.0) (counts_rows config v n dir may.1 g)
+told_of config v n dir (Blocks lane name rule missing came) may g = absurd may
+told_of config v n dir (Lands name rule old missing) may g = absurd may
 told_of config v n dir (EndsAt keys updates missing) may g = tt
 
 abbrev counting : World → ℕ → ℕ → ℕ → Work
@@ -64,6 +67,8 @@ counts config w n h e p operation dir there other s fit at is =
       asking = tt;
       records = (255, refl);
       operation = (omega arith, λ _. told_of config v n dir v.op.work comes.1 s.good);
+      bars = tt;
+      knowing = tt;
     } in
     let mine : IsFine config (view_in config w n (begun node) h) (Node 255) (length w.commits + 0) (count_told node.rows node.number operation dir) =
     subst (λ m. IsFine config (view_in config w n (begun node) h) (Node 255) (length w.commits + 0) (message.Counted operation m number)) (sym (s.placed n).number)
@@ -106,7 +111,7 @@ commits config w n h e p operation updates there other s fit at is =
     let v1 : View = record v { rows = put v.rows n (laid (v.op.due n) (v.rows n)); op = record v.op { due = put v.op.due n []; shut = put v.op.shut n None } } in
     let later : Ghost = record h { due = put h.due n [] } in
     let k = opened w n operation updates in
-    let due_is : h.due n ≡ owned node.table node.number updates = comes.2 ∙ (λ i. owned (sym placed.table i) (sym placed.number i) updates) in
+    let due_is : h.due n ≡ owned node.table node.number updates = comes.2 ∙ (λ i. owned (sym (node_table config w h s n) i) (sym placed.number i) updates) in
     let closed : None ≡ unless_of operation node.locks.shut =
     sym (ap (unless_of operation) shut.1 ∙ ap (λ b. cond b None (shut_by operation shut.0)) (eq-eqb operation operation refl)) in
     let same : v1 ≡ view_in config w n k later = λ i. record (view_begun config w n h other i) {
@@ -128,6 +133,8 @@ commits config w n h e p operation updates there other s fit at is =
       asking = tt;
       records = (255, refl);
       operation = (omega arith, λ _. subst (λ (d : Doing). ToldDone d (put v.op.shut n None n)) (sym comes.1.1) (put_same v.op.shut n None));
+      bars = tt;
+      knowing = tt;
     } in
     let mine : IsFine config (view_in config w n k later) (Node 255) (length w.commits + 0) (message.Done operation node.number) =
     subst (λ m. IsFine config (view_in config w n k later) (Node 255) (length w.commits + 0) (message.Done operation m)) (sym placed.number)

@@ -8,6 +8,7 @@ use Rattle.fal_coord.specs.declared.stage.Stage.TheVariants as stage
 use Rattle.fal_coord.specs.Walks.{walked_paths}
 use Rattle.fal_dentry.specs.TreeWalk.{last_key, last_name}
 use Rattle.fal_story.proofs.View.{Asking, Kept, Work, Rests, Walks, Locks, Counts, Ends}
+use Rattle.fal_place.specs.Placement.{Placement}
 
 -- where each path of an operation has ended
 abbrev pub kept_walks : List (List (List ℕ)) → List PathWalk → List Kept
@@ -18,12 +19,13 @@ kept_walks paths walks = []
 abbrev pub kept_of : Operation → List Kept
 kept_of operation = kept_walks (walked_paths operation.call.op) operation.walks
 
-abbrev pub work_of : Stage → Work
-work_of stage.Idle = Rests
-work_of (stage.Walk call number key) = Walks call.id.client
-work_of (stage.Lock operation missing rows) = Locks operation.call.id.client operation.keys (kept_of operation) missing rows
-work_of (stage.Count operation rows dir updates missing counts) = Counts operation.call.id.client operation.keys (kept_of operation) missing rows dir updates (sum counts)
-work_of (stage.Finish keys updates missing) = Ends keys updates missing
+-- it is at a placement in no stage yet; the table before the last placement is given, since no stage has it
+abbrev pub work_of : Placement → Stage → Work
+work_of before stage.Idle = Rests
+work_of before (stage.Walk call number key) = Walks call.id.client
+work_of before (stage.Lock operation missing rows) = Locks operation.call.id.client operation.keys (kept_of operation) missing rows
+work_of before (stage.Count operation rows dir updates missing counts) = Counts operation.call.id.client operation.keys (kept_of operation) missing rows dir updates (sum counts)
+work_of before (stage.Finish keys updates missing) = Ends keys updates missing
 
 -- the fetch for which the coordinator waits
 abbrev pub awaited : Stage → List Asking

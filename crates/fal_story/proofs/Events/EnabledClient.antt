@@ -23,6 +23,7 @@ use Rattle.fal_wire.specs.declared.message.Message.{Message}
 use Rattle.fal_wire.specs.declared.message.Message.TheVariants as message
 use Rattle.fal_wire.specs.Messages.{reading}
 use Rattle.fal_story.proofs.Drain.MovingDeliver.{post_at}
+use Rattle.fal_story.proofs.Events.FirstTable.{none_stale}
 use Rattle.fal_story.proofs.Events.Shows.{Ghost, Shows}
 use Rattle.fal_story.specs.World.{World}
 use Rattle.fal_story.proofs.View.{seat}
@@ -115,6 +116,7 @@ hears config w l number h x (message.Reply id reply) P s at to read rest hear =
       | None ↦ λ e. rest (λ current id news_told at seq attempt is. let wrong : None ≡ Some current = sym e ∙ at in absurd (cc))
       | Some current ↦ λ e. replies config w l h x id reply current P s read e rest hear
     ] refl
+hears config w l number h x (message.Stale id old new changes) P s at to read rest hear = absurd (none_stale config w h s number x.point l id old new changes (post_at w.envelopes number x at ∙ (λ i. Some (record { to = seat (to i); point = x.point; message = result_ok (read i) }))))
 hears config w l number h x other P s at to read rest hear =
     absurd (s.good.records.responses number l x.point other (post_at w.envelopes number x at ∙ (λ i. Some (record { to = seat (to i); point = x.point; message = result_ok (read i) }))))
 

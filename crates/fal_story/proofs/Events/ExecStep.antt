@@ -251,7 +251,7 @@ leaves config w n k h y xs x ys reply ch s at good counted =
       later,
       (
         record {
-          step = sends config w n (noted k x ch) later list.calls (xs ++ ys) (reply_letter x.call (Here (commits_in k.notes)) reply) (record { asking = tt; records = (l, refl, (refl, inr (seq, inr (put_same h.phase l q)))); operation = tt }) step;
+          step = sends config w n (noted k x ch) later list.calls (xs ++ ys) (reply_letter x.call (Here (commits_in k.notes)) reply) (record { asking = tt; records = (l, refl, (refl, inr (seq, inr (put_same h.phase l q)))); operation = tt; bars = tt; knowing = tt }) step;
           counted = counted;
           waiting = s.waiting;
           batches = s.batches;
@@ -293,7 +293,7 @@ hands_on config w n k h y xs x ys few s at =
       (
         record {
           step = sends config w n (noted k x change.Keep) later list.calls (xs ++ ys) (pass_letter x.call (Here (commits_in k.notes)) Coord)
-              (record { asking = tt; records = (255, refl, inl (live, put_same h.phase l q)); operation = tt }) step;
+              (record { asking = tt; records = (255, refl, inl (live, put_same h.phase l q)); operation = tt; bars = tt; knowing = tt }) step;
           counted = unchanged_counted config w k x s.counted;
           waiting = s.waiting;
           batches = s.batches;

@@ -28,12 +28,13 @@ use Rattle.fal_wire.specs.Messages.{Fits}
 use Rattle.fal_story.proofs.Events.Besides.{beside_stepped}
 use Rattle.fal_story.proofs.Events.Doing.{awaited}
 use Rattle.fal_story.proofs.Events.Elsewhere.{stays_there}
+use Rattle.fal_story.proofs.Events.FirstTable.{node_table}
 use Rattle.fal_story.proofs.Events.GatherHolds.{IsGrown, holds_after, others_planned}
 use Rattle.fal_story.proofs.Events.GatherPhases.{crossed, phase, moves_at, may_move, new_off, reach_new, held_after}
 use Rattle.fal_story.proofs.Events.Going.{fates_stay}
 use Rattle.fal_story.proofs.Events.HeldCalls.{others_held, heard_moves}
 use Rattle.fal_story.proofs.Events.InStep.{at_seat, view_begun, InStep, Ends, ends, view_in, letter_post, letter_posts, sent_more}
-use Rattle.fal_story.proofs.Events.Shows.{Ghost, Shows, Held, AreSent, IsPlaced, IsTidy, view_of, posts_of, askings_of, pending_calls, calls_in, operating, shut_of, last_of, locks_in, Beside}
+use Rattle.fal_story.proofs.Events.Shows.{Ghost, Shows, Held, AreSent, IsPlaced, IsTidy, view_of, posts_of, askings_of, pending_calls, calls_in, operating, shut_of, last_of, locks_in, Beside, mapped, tables_of, barred_in, barred_of}
 use Rattle.fal_story.proofs.Families.Asking.{IsForKey}
 use Rattle.fal_story.proofs.Good.{Good}
 use Rattle.fal_story.proofs.Families.Asking.{Crosses}
@@ -96,7 +97,7 @@ all_sent config v x commits (Asks f ∷ errands) there other table h g =
     let one = letter_post commits (ask_letter x f.number f.key) in
     let next = record v { posts = v.posts ++ one ∷ [] } in
     let first = posted_good config v (Node to) (commits + 0) (message.FetchAsk x.number f.number f.key)
-    (record { asking = (inl there, h.0.0, ap (λ t. Node (owner t f.key)) table, h.0.1); records = (to, refl); operation = λ own. absurd (other own) }) g in
+    (record { asking = (inl there, h.0.0, (to, refl, subst (λ t. owner t f.key < config.nodes) (sym table) (g.ground.lives f.key), λ _. ap (λ t. owner t f.key) table), h.0.1); records = (to, refl); operation = λ own. absurd (other own); bars = tt; knowing = tt }) g in
     subst (λ posts. Good config (record v { posts = posts })) (append_assoc v.posts (one ∷ []) (posts_by commits x errands)) (all_sent config next x commits errands there other table h.1 first)
 all_sent config v x commits (Parts y ∷ errands) there other table h g = absurd h.0
 
@@ -233,7 +234,7 @@ module _ (config : Config) (w : World) (n : ℕ) (h : Ghost) (there : n < config
       (subst (Each (λ y. IsSendable pended number (Parts y))) (sym (l.parted ∙ none)) tt)
 
   sent_is : Good config (record pended { posts = v.posts ++ posts_by (length w.commits) (w.nodes n) errands })
-  sent_is = all_sent config pended (w.nodes n) (length w.commits) errands (subst (λ i. i < config.nodes) (sym (s.placed n).number) there) (λ own. other (sym (s.placed n).number ∙ own)) (s.placed n).table sendable pended_is
+  sent_is = all_sent config pended (w.nodes n) (length w.commits) errands (subst (λ i. i < config.nodes) (sym (s.placed n).number) there) (λ own. other (sym (s.placed n).number ∙ own)) (node_table config w h s n) sendable pended_is
 
   abbrev letters : List Letter
   letters = map (letter_of (w.nodes n)) errands
@@ -258,6 +259,7 @@ module _ (config : Config) (w : World) (n : ℕ) (h : Ghost) (there : n < config
         posts = v.posts ++ posts_by (length w.commits) (w.nodes n) errands;
         phase = later;
         op = operating (kept_at (shut_of w.nodes) n y.locks.shut a.shut i) (kept_at (last_of w.nodes) n y.last_operation a.last_operation i) w.coord then;
+        map = mapped (kept_at (tables_of w.nodes) n y.table a.table i) (kept_at (barred_in w.nodes) n (barred_of y.blocked) (ap barred_of a.blocked) i) w.clients w.coord then;
       }
 
   placed_is : IsPlaced config n y

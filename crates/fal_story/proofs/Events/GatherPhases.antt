@@ -13,17 +13,19 @@ use Rattle.fal_wait.specs.declared.pending_fetch.PendingFetch.{PendingFetch}
 use Rattle.fal_wait.specs.declared.waiting_call.WaitingCall.{WaitingCall}
 use Rattle.fal_wait.specs.Waiting.{WaitList}
 use Rattle.fal_story.proofs.Events.Fates.{IsFate, rests_by, rests_open}
+use Rattle.fal_story.proofs.Events.FirstTable.{node_table, none_barred}
 use Rattle.fal_story.proofs.Events.Going.{fate_now}
 use Rattle.fal_story.proofs.Events.HeldCalls.{MovesAt}
 use Rattle.fal_story.proofs.Events.InStep.{at_seat}
 use Rattle.fal_story.proofs.Events.Shows.{Ghost, Shows, Held, WaitsAt, PlannedAt, view_of, lane_of, planned_lane, calls_in}
+use Rattle.fal_story.proofs.Families.Bars.{IsBarred}
 use Rattle.fal_story.proofs.Families.Plans.{IsPlanned}
 use Rattle.fal_story.proofs.Lists.Each.{Each, Apart, each_weaker, each_join}
 use Rattle.fal_story.proofs.Lists.GatherKeys.{HasKeys}
 use Rattle.fal_story.proofs.Lists.GatherLists.{IsKept, IsJoined, IsGathered, Leaver}
 use Rattle.fal_story.proofs.Lists.Grown.{put_same}
 use Rattle.fal_story.proofs.Lists.Members.{IsIn, each_in, each_by, find_in, find_apart, find_absent, same_number, apart_join, apart_same, apart_back}
-use Rattle.fal_story.proofs.Phase.{Phase, Idle, Asked, Waits, Plans, Runs, Tells, IsHeld}
+use Rattle.fal_story.proofs.Phase.{Phase, Idle, Asked, Waits, Plans, Runs, Tells, IsHeld, Told}
 use Rattle.fal_base.specs.declared.key.Key.{Key}
 use Rattle.fal_story.proofs.Families.Asking.{Crosses}
 use Rattle.fal_story.proofs.Families.Clear.{IsShut}
@@ -35,7 +37,7 @@ use Rattle.fal_locks.specs.declared.holder.Shut.{Shut}
 use Rattle.fal_locks.specs.Locks.{shut_keys_of}
 use Rattle.fal_story.proofs.Steps.Moved.{IsClear, MayMove, held_for}
 use Rattle.fal_story.proofs.Trees.PathWalks.{crosses_by, reaches_by}
-use Rattle.fal_story.proofs.Trees.Standing.{Reaches, table_of, tree_now}
+use Rattle.fal_story.proofs.Trees.Standing.{Reaches, tree_now}
 use Rattle.fal_story.proofs.View.{View}
 use Rattle.fal_story.specs.World.{World, put}
 
@@ -106,6 +108,7 @@ still_moves config v l walked kept (Waits m None) q same = inr (subst (λ z. May
 still_moves config v l walked kept (Waits m (Some number)) q same = inl (same, refl)
 still_moves config v l walked kept (Plans m x) q same = inl (same, refl)
 still_moves config v l walked kept Runs q same = inl (same, refl)
+still_moves config v l walked kept (Told old new) q same = inl (same, refl)
 still_moves config v l walked kept (Tells answer) q same = inl (same, refl)
 
 -- ---- the fates of free calls
@@ -304,11 +307,11 @@ module _ (config : Config) (w : World) (n : ℕ) (h : Ghost) (there : n < config
         let lane : lane_of j.0 ≡ l = ap (λ (c : CallRec). c.id.client) (sym j.1.2) ∙ y.1.1 in
         let held : IsHeld n (h.phase l) = subst (λ i. IsHeld n (h.phase i)) lane (subst (IsHeld n) (sym at.0) refl) in
         let own : IsPlanned setting.table tree setting.me x.call (rests x.call) x = subst (λ (c : CallRec). PlannedBy c x) (sym j.1.2) (joins_as j.0 x j.1.0 j.1.3.0 j.1.3.1) in
-        let here = subst (λ t. IsPlanned t tree setting.me x.call (rests x.call) x) (s.placed n).table own in
-        let planned : IsPlanned (table_of config) tree n j.0.call (rests j.0.call) x
-        = subst (λ (c : CallRec). IsPlanned (table_of config) tree n c (rests c) x) j.1.2 (subst (λ m. IsPlanned (table_of config) tree m x.call (rests x.call) x) (s.placed n).number here) in
+        let here = subst (λ t. IsPlanned t tree setting.me x.call (rests x.call) x) (node_table config w h s n) own in
+        let planned : IsPlanned w.coord.table tree n j.0.call (rests j.0.call) x
+        = subst (λ (c : CallRec). IsPlanned w.coord.table tree n c (rests c) x) j.1.2 (subst (λ m. IsPlanned w.coord.table tree m x.call (rests x.call) x) (s.placed n).number here) in
         subst (λ p. MayMove config risen l (h.phase l) p (crossed l)) (sym y.1.2)
-        (held, there, by_lane (λ call keys. IsPlanned (table_of config) tree n call keys x) j.0 l j.1.0 j.1.1 lane planned, free_off j.0 l j.1.0 j.1.1 lane)
+        (held, there, by_lane (λ call keys. IsPlanned w.coord.table tree n call keys x) j.0 l j.1.0 j.1.1 lane planned, free_off j.0 l j.1.0 j.1.1 lane, λ ready is. subst (λ b. IsBarred b x.last.name) (none_barred config w h s n) is)
 
     -- the batch holds the keys on which a call that joins rests
     pub joined_keys : (keys : List Key) → Each (HasKeys setting keys) batch → (l : ℕ) (x : BatchCall) → IsIn x batch → planned_lane x ≡ l → (key : Key) → is_among key (crossed l) ≡ true → is_among key keys ≡ true

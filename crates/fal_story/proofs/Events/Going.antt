@@ -20,6 +20,7 @@ use Rattle.fal_wait.specs.declared.waiting_call.WaitingCall.{WaitingCall}
 use Rattle.fal_wire.specs.Names.{path_field, path_arg_field}
 use Rattle.fal_wire.specs.Ops.{op_field, path_and_mode, path_and_want, path_and_owner, path_and_size}
 use Rattle.fal_story.proofs.Events.Fates.{IsFate, IsFateOf, fate_is, named_op}
+use Rattle.fal_story.proofs.Events.FirstTable.{sent_there, node_table}
 use Rattle.fal_story.proofs.Events.InStep.{at_seat}
 use Rattle.fal_story.proofs.Events.Shows.{Ghost, Shows, WaitsAt, lane_of}
 use Rattle.fal_story.proofs.Lists.Each.{Each, each_weaker}
@@ -28,7 +29,7 @@ use Rattle.fal_story.proofs.Phase.{Idle, IsFor}
 use Rattle.fal_story.proofs.Phase as phase
 use Rattle.fal_story.proofs.Ranges.FateRanges.{never_by_parent, not_elsewhere, sent_here}
 use Rattle.fal_story.proofs.Trees.Met.{AreDirs}
-use Rattle.fal_story.proofs.Trees.Standing.{table_of, tree_now}
+use Rattle.fal_story.proofs.Trees.Standing.{tree_now}
 use Rattle.fal_story.specs.Clusters.{is_served}
 use Rattle.fal_story.specs.World.{World}
 
@@ -107,8 +108,8 @@ module _ (config : Config) (w : World) (n : ℕ) (h : Ghost) (there : n < config
   tree = tree_now w.commits
 
   -- the call goes to this node
-  sent_to : (c : WaitingCall) → WaitsAt h.call h.phase n c → addressee (table_of config) (h.call (lane_of c)).op ≡ Node n
-  sent_to c at = s.good.lanes.routed (lane_of c) n there (subst (IsFor n) (sym at.0) refl)
+  sent_to : (c : WaitingCall) → WaitsAt h.call h.phase n c → addressee w.coord.table (h.call (lane_of c)).op ≡ Node n
+  sent_to c at = sent_there config w h s (lane_of c) n there (subst (IsFor n) (sym at.0) refl)
 
   -- each directory of the replica is the tree's
   dirs_at : AreDirs tree (w.nodes n).replica
@@ -118,7 +119,7 @@ module _ (config : Config) (w : World) (n : ℕ) (h : Ghost) (there : n < config
   names_at c at =
       let l = lane_of c in
       let busy : h.phase l ≢ Idle = λ e. let wrong : Idle ≡ phase.Waits n c.fetch = sym e ∙ at.0 in absurd (cc) in
-      subst (λ (k : CallRec). HasNames k.op) (sym at.1) (names_of (table_of config) n (h.call l).op (s.good.lanes.under_way.served l busy) (s.good.lanes.under_way.fits l busy) (sent_to c at))
+      subst (λ (k : CallRec). HasNames k.op) (sym at.1) (names_of w.coord.table n (h.call l).op (s.good.lanes.under_way.served l busy) (s.good.lanes.under_way.fits l busy) (sent_to c at))
 
   -- each waiting call has a fate by the tree
   pub fate_now : (c : WaitingCall) → WaitsAt h.call h.phase n c → IsFate setting tree c.call (fate setting c.call)
@@ -132,9 +133,9 @@ module _ (config : Config) (w : World) (n : ℕ) (h : Ghost) (there : n < config
   stays_now c at =
       let names = names_at c at in
       let by = λ (last : Option (List ℕ)). ap (λ t. goes_by_parent t last) (s.placed n).table ∙ never_by_parent config.nodes last in
-      let to : addressee (table_of config) c.call.op ≡ Node n = ap (λ (k : CallRec). addressee (table_of config) k.op) at.1 ∙ sent_to c at in
-      let route_is = sent_here (table_of config) c.call.op names.0 n (named_op c.call.op names.0 names.1.0) to in
-      let here : route setting.table names.0 ≡ setting.me = ap (λ t. route t names.0) (s.placed n).table ∙ route_is ∙ sym (s.placed n).number in
+      let to : addressee w.coord.table c.call.op ≡ Node n = ap (λ (k : CallRec). addressee w.coord.table k.op) at.1 ∙ sent_to c at in
+      let route_is = sent_here w.coord.table c.call.op names.0 n (named_op c.call.op names.0 names.1.0) to in
+      let here : route setting.table names.0 ≡ setting.me = ap (λ t. route t names.0) (node_table config w h s n) ∙ route_is ∙ sym (s.placed n).number in
       stays_by setting tree c.call names.0 (fate setting c.call) by here (fate_named c at)
 
   -- since nothing is blocked, none is skipped where nothing is shut

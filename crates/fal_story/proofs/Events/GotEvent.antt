@@ -46,7 +46,7 @@ use Rattle.fal_story.proofs.Good.{Good}
 use Rattle.fal_story.proofs.Lists.Each.{Each, each_weaker}
 use Rattle.fal_story.proofs.Lists.Members.{each_filter, map_map}
 use Rattle.fal_story.proofs.Lists.WaitLists.{tidy_settle, found_number, found_asking, settled_calls, settled_fetches, settled_last, settled_opened, askings_left, left, left_calls, left_fetches, left_last, left_opened, tidy_left, refusals_are}
-use Rattle.fal_story.proofs.Phase.{Phase, Idle, Asked, Waits, Plans, Tells, Replies, IsUnanswered, IsFor, IsHeld, Runs}
+use Rattle.fal_story.proofs.Phase.{Phase, Idle, Asked, Waits, Plans, Tells, Replies, IsUnanswered, IsFor, IsHeld, Runs, Told}
 use Rattle.fal_story.proofs.Steps.Fetching.{closed_good}
 use Rattle.fal_story.proofs.Steps.Learned.{learned_good}
 use Rattle.fal_story.proofs.Steps.Moved.{MayMove, moved_good}
@@ -127,6 +127,7 @@ on_waits n number (Waits m None) on = absurd (let b = both_second (m == n) false
 on_waits n number (Waits m (Some f)) on = λ i. Waits (eqb-true m n (both_first (m == n) (f == number) on) i) (Some (eqb-true f number (both_second (m == n) (f == number) on) i))
 on_waits n number (Plans m x) on = absurd (cc)
 on_waits n number Runs on = absurd (cc)
+on_waits n number (Told old new) on = absurd (cc)
 on_waits n number (Tells answer) on = absurd (cc)
 
 -- a call stays where it is, or was a waiter and goes on
@@ -226,7 +227,7 @@ told_good : (config : Config) (v : View) (p : ℕ) (reply : Reply) (ws : List Wa
 told_good config v p reply [] fine g = subst (λ posts. Good config (record v { posts = posts })) (sym (append-nil v.posts)) g
 told_good config v p reply (w ∷ ws) fine g =
     let x = post (Client (lane_of w)) p (message.Reply w.call.id reply) in
-    let one = posted_good config v (Client (lane_of w)) p (message.Reply w.call.id reply) (record { asking = tt; records = (lane_of w, refl, fine.0); operation = tt }) g in
+    let one = posted_good config v (Client (lane_of w)) p (message.Reply w.call.id reply) (record { asking = tt; records = (lane_of w, refl, fine.0); operation = tt; bars = tt; knowing = tt }) g in
     subst (λ posts. Good config (record v { posts = posts })) (append_assoc v.posts (x ∷ []) (told p reply ws)) (told_good config (record v { posts = v.posts ++ x ∷ [] }) p reply ws fine.1 one)
 
 -- the answer to a waiter is fine once it is done

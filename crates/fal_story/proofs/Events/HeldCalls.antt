@@ -13,7 +13,7 @@ use Rattle.fal_story.proofs.Events.Shows.{Held, Heard, WaitsAt, PlannedAt, lane_
 use Rattle.fal_story.proofs.Lists.Each.{Apart, each_weaker, each_both, each_without, each_middle, each_join, apart_without, apart_others}
 use Rattle.fal_story.proofs.Lists.Grown.{put_all, put_same, put_other}
 use Rattle.fal_story.proofs.Lists.Members.{each_map, each_filter, apart_map, apart_filter, apart_push}
-use Rattle.fal_story.proofs.Phase.{Phase, Idle, Asked, Waits, Plans, Tells, IsFor, IsHeld, Runs}
+use Rattle.fal_story.proofs.Phase.{Phase, Idle, Asked, Waits, Plans, Tells, IsFor, IsHeld, Runs, Told}
 use Rattle.fal_story.proofs.Steps.Moved.{held_for}
 use Rattle.fal_story.specs.World.{World, put}
 
@@ -25,6 +25,7 @@ for_not_idle n (Asked m) h e = cc
 for_not_idle n (Waits m f) h e = cc
 for_not_idle n (Plans m x) h e = cc
 for_not_idle n Runs h e = absurd h
+for_not_idle n (Told old new) h e = absurd h
 for_not_idle n (Tells answer) h e = absurd h
 
 pub one_node : (m n : ℕ) (p : Phase) → IsFor m p → IsFor n p → m ≡ n
@@ -33,6 +34,7 @@ one_node m n (Asked i) a b = sym a ∙ b
 one_node m n (Waits i f) a b = sym a ∙ b
 one_node m n (Plans i x) a b = sym a ∙ b
 one_node m n Runs a b = absurd a
+one_node m n (Told old new) a b = absurd a
 one_node m n (Tells answer) a b = absurd a
 
 -- ---- what is kept elsewhere, and what clients know
@@ -97,6 +99,7 @@ is_on n number (Asked m) = false
 is_on n number (Waits m fetch) = (m == n) && waits_on number fetch
 is_on n number (Plans m x) = false
 is_on n number Runs = false
+is_on n number (Told old new) = false
 is_on n number (Tells answer) = false
 
 -- a call that waits on this fetch goes on to another place

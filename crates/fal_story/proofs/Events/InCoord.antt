@@ -9,7 +9,7 @@ use Rattle.fal_coord.specs.State.{Work, begun}
 use Rattle.fal_wire.specs.Letters.{output_of}
 use Rattle.fal_wire.specs.Messages.{Fits}
 use Rattle.fal_story.proofs.Events.InStep.{letter_posts, posts_sent, sent_more}
-use Rattle.fal_story.proofs.Events.Shows.{operating, replicas_of, fetches_of, opened_of, taken_of, shut_of, last_of, mapped, Ghost, Shows, Beside, Held, Heard, AreSent, view_of, posts_of, calls_in}
+use Rattle.fal_story.proofs.Events.Shows.{operating, replicas_of, fetches_of, opened_of, taken_of, shut_of, last_of, mapped, Ghost, Shows, Beside, Held, Heard, AreSent, view_of, posts_of, calls_in, tables_of, barred_in}
 use Rattle.fal_story.proofs.Good.{Good}
 use Rattle.fal_story.proofs.View.{View}
 use Rattle.fal_story.specs.World.{World, posted, entries_of, envelopes_of}
@@ -31,7 +31,7 @@ view_at config w k h = record {
   since = h.since;
   phase = h.phase;
   op = operating (shut_of w.nodes) (last_of w.nodes) k.coord h;
-  map = mapped config;
+  map = mapped (tables_of w.nodes) (barred_in w.nodes) w.clients k.coord h;
 }
 
 -- the coordinator is at work k

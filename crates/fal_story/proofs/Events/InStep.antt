@@ -21,7 +21,7 @@ use Rattle.fal_wire.specs.Messages.{Fits}
 use Rattle.fal_wire.proofs.ReadingLaws.{spelled_reads}
 use Rattle.fal_wire.specs.Letters.{output_of}
 use Rattle.fal_story.proofs.Events.Doing.{awaited}
-use Rattle.fal_story.proofs.Events.Shows.{operating, replicas_of, fetches_of, opened_of, taken_of, shut_of, last_of, mapped, Ghost, Shows, Beside, Held, Heard, IsPlaced, AreSent, view_of, post_of, posts_of, askings_of, calls_in}
+use Rattle.fal_story.proofs.Events.Shows.{operating, replicas_of, fetches_of, opened_of, taken_of, shut_of, last_of, mapped, Ghost, Shows, Beside, Held, Heard, IsPlaced, AreSent, view_of, post_of, posts_of, askings_of, calls_in, tables_of, barred_of, barred_in}
 use Rattle.fal_story.proofs.Good.{Good}
 use Rattle.fal_story.proofs.Lists.Each.{each_weaker}
 use Rattle.fal_story.proofs.Lists.Grown.{put_all, put_other, put_swap, at_put, put_back, slice_get_front}
@@ -52,7 +52,7 @@ view_in config w n k h = record {
   since = h.since;
   phase = h.phase;
   op = operating (put (shut_of w.nodes) n k.node.locks.shut) (put (last_of w.nodes) n k.node.last_operation) w.coord h;
-  map = mapped config;
+  map = mapped (put (tables_of w.nodes) n k.node.table) (put (barred_in w.nodes) n (barred_of k.node.blocked)) w.clients w.coord h;
 }
 
 -- node n is at work k, with these calls kept
@@ -100,7 +100,7 @@ view_begun config w n h other = λ i. record {
   since = h.since;
   phase = h.phase;
   op = operating (sym (put_back (shut_of w.nodes) n) i) (sym (put_back (last_of w.nodes) n) i) w.coord h;
-  map = mapped config;
+  map = mapped (sym (put_back (tables_of w.nodes) n) i) (sym (put_back (barred_in w.nodes) n) i) w.clients w.coord h;
 }
 
 pub begins : (config : Config) (w : World) (n : ℕ) (h : Ghost) → n ≢ 255 → Shows config w h → InStep config w n (begun (w.nodes n)) h (w.nodes n).waiting.calls (calls_in (w.nodes n).batches)
@@ -167,7 +167,7 @@ ends config w n k h other fit beside s =
       since = h.since;
       phase = h.phase;
       op = operating (sym (at_put (λ x. x.locks.shut) w.nodes n k.node) i) (sym (at_put (λ x. x.last_operation) w.nodes n k.node) i) w.coord h;
-      map = mapped config;
+      map = mapped (sym (at_put (λ x. x.table) w.nodes n k.node) i) (sym (at_put (λ x. barred_of x.blocked) w.nodes n k.node) i) w.clients w.coord h;
     }
 
 -- the world after the event shows what there is

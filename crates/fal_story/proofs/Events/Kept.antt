@@ -18,10 +18,11 @@ use Rattle.fal_node.specs.Step.{node_step}
 use Rattle.fal_wire.specs.Messages.{Fits}
 use Rattle.fal_story.proofs.Coordinator.HearEvent.{hear_event}
 use Rattle.fal_story.proofs.Coordinator.StartEvent.{start_event}
-use Rattle.fal_story.proofs.Events.ClientEvent.{EndsClient, send_event, get_event}
+use Rattle.fal_story.proofs.Events.ClientEvent.{EndsClient, send_event}
 use Rattle.fal_story.proofs.Events.DeliverEvent.{deliver_event}
 use Rattle.fal_story.proofs.Events.ExecEvent.{exec_event}
 use Rattle.fal_story.proofs.Events.GatherEvent.{gather_event}
+use Rattle.fal_story.proofs.Events.GetEvent.{get_event}
 use Rattle.fal_story.proofs.Events.InCoord.{EndsCoord}
 use Rattle.fal_story.proofs.Events.InStep.{Ends}
 use Rattle.fal_story.proofs.Events.ServeEvent.{serve_event, release_event}

@@ -23,7 +23,7 @@ use Rattle.fal_story.proofs.Lists.Each.{each_join}
 use Rattle.fal_story.proofs.Lists.Grown.{put_back, put_other, put_same, slice_get_front}
 use Rattle.fal_story.proofs.Steps.Arrives.{lock_comes}
 use Rattle.fal_story.proofs.Steps.Reopened.{queued_good}
-use Rattle.fal_story.proofs.View.{IsPosted, Work, Rests, Walks, Locks, Counts, Ends as EndsAt}
+use Rattle.fal_story.proofs.View.{IsPosted, Work, Rests, Walks, Locks, Counts, Ends as EndsAt, Blocks, Lands}
 use Rattle.fal_story.specs.World.{World, put}
 
 -- a node to which a newer Lock comes has no other
@@ -36,6 +36,8 @@ away_none table operation n (Locks lane locked walks missing rows) keys shut que
     (λ has. has.1)
     stands.1
 away_none table operation n (Counts lane locked walks missing rows dir updates sum) keys shut queued last due newer locks stands = stands.1.1
+away_none table operation n (Blocks lane name rule missing came) keys shut queued last due newer locks stands = absurd locks
+away_none table operation n (Lands name rule old missing) keys shut queued last due newer locks stands = absurd locks
 away_none table operation n (EndsAt locked updates missing) keys shut queued last due newer locks stands = ⊎_elim (λ x. x.2.1) (λ x. x.2) stands
 
 queues : (config : Config) (w : World) (n : ℕ) (h : Ghost) (e p operation : ℕ) (keys : List Key) → n ≢ 255 → Shows config w h → AllFit [] → IsPosted (posts_of w.envelopes) e (Node n) p (message.Lock operation keys)

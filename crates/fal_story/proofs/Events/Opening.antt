@@ -16,7 +16,7 @@ use Rattle.fal_base.proofs.Maps.{put_cases}
 use Rattle.fal_base.proofs.Order.{in_order_with}
 use Rattle.fal_coord.specs.State.{opening_coord}
 use Rattle.fal_node.specs.State.{opening_node, opening_rows}
-use Rattle.fal_place.specs.Placement.{Placement, owner}
+use Rattle.fal_place.specs.Placement.{Placement, owner, opening_table}
 use Rattle.fal_wire.specs.Numbers.{ino_field, mode_field, size_field}
 use Rattle.fal_wire.specs.Rows.{kind_field, inode_field}
 use Rattle.fal_story.proofs.Events.Shows.{Ghost, Shows, IsPlaced, view_of}
@@ -74,7 +74,7 @@ abbrev no_call : CallRec
 no_call = record { id = record { client = 0; seq = 0; attempt = 0; hop = 0 }; cred = record { uid = 0; gid = 0 }; version = 0; op = op.Stat (GoodPath []) }
 
 abbrev pub opening_ghost : Ghost
-opening_ghost = record { call = λ _. no_call; since = λ _. 0; phase = λ _. Idle; crossed = λ _. []; queued = λ _. None; due = λ _. []; starts = [] }
+opening_ghost = record { call = λ _. no_call; since = λ _. 0; phase = λ _. Idle; crossed = λ _. []; queued = λ _. None; due = λ _. []; starts = []; placings = []; before = opening_table 1 }
 
 lane_at_start : (lane : Option (List Call)) (k : ℕ) → slice_get (unwrap_or lane []) k ≡ lane_call lane (suc k)
 lane_at_start None k = refl
@@ -120,7 +120,7 @@ good_at_first config cluster = record {
     right = λ l k reply is. absurd (cc);
     uncommitted = λ l i c is there by. absurd (is);
     under_way = record { started = λ l is. refl; served = λ l is. absurd (is refl); fits = λ l is. absurd (is refl) };
-    routed = λ l n below is. absurd is;
+    routed = λ l n is. absurd is;
   };
   script = record {
     commits = record { older = λ i c is. absurd (cc); legal = tt; numbers = λ i c is. absurd (cc); few = λ n. omega arith };
@@ -139,9 +139,21 @@ good_at_first config cluster = record {
       sent = λ l. refl;
       unanswered = λ l i k reply is there. absurd (cc);
       uncommitted = λ l i ino is there. absurd (cc);
+      unplaced = λ l i version is there. absurd (cc);
       plain = λ i l s ino point is. absurd (cc);
-      unplaced = λ i l s version is. absurd (cc);
-      unstale = λ i l s old new is. absurd (cc);
+    };
+    placements = record {
+      same = refl;
+      count = refl;
+      few = omega arith;
+      placed = record {
+        versions = λ j l s version is. absurd (cc);
+        room = λ j l s version call name rule is named places. absurd (cc);
+        answers = λ j l s k reply call name rule is named places. absurd (cc);
+      };
+      knows = λ l. refl;
+      older = λ j l s old new is. absurd (cc);
+      right = λ l k reply call name rule is named places. absurd (cc);
     };
   };
   records = record { requests = λ e n p c posted. absurd (cc); responses = λ e l p m posted. absurd (cc) };
@@ -159,6 +171,23 @@ good_at_first config cluster = record {
     unmaking = λ l is. absurd (cc);
     quiet = refl;
     starts = record { count = refl; apart = λ i j x a b. absurd (cc); sent = λ i l s at. absurd (cc); last = λ i l at. absurd (cc) };
+  };
+  bars = record {
+    stands = λ n below. (refl, refl);
+    beyond = λ n past. refl;
+    grown = tt;
+    gone = λ n key is. absurd is;
+    named = tt;
+    came = tt;
+    told = λ e p to m posted. absurd (cc);
+    clear = λ l n x e ready is. is;
+  };
+  knowing = record {
+    recorded = refl;
+    knows = λ l. (0, omega arith, refl);
+    version = λ l busy. absurd (busy refl);
+    told = λ l old new e. absurd (cc);
+    stale = λ e p l id old new changes posted. absurd (cc);
   };
 }
 

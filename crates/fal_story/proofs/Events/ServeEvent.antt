@@ -34,16 +34,17 @@ use Rattle.fal_wire.specs.declared.message.Message.TheVariants as message
 use Rattle.fal_wire.specs.Messages.{Fits}
 use Rattle.fal_wire.specs.Letters.{letter}
 use Rattle.fal_story.proofs.Events.Besides.{beside_still, beside_stepped}
+use Rattle.fal_story.proofs.Events.FirstTable.{asked_owner, node_table, none_barred}
 use Rattle.fal_story.proofs.Events.Freed.{locks_without}
 use Rattle.fal_story.proofs.Events.InStep.{view_in, InStep, Ends, begins, ends, view_begun}
 use Rattle.fal_story.proofs.Events.Sends.{sends, each_found, each_without_first}
 use Rattle.fal_story.proofs.Events.ServeLock.{lock_served}
 use Rattle.fal_story.proofs.Events.Shows.{Ghost, Shows, Beside, Held, Holds, is_lock, view_of, posts_of, calls_in, pending_calls}
+use Rattle.fal_story.proofs.Families.Bars.{IsBarred}
 use Rattle.fal_story.proofs.Lists.Grown.{tells, unequal}
 use Rattle.fal_story.proofs.Lists.Members.{find_in, find_other}
 use Rattle.fal_story.proofs.Phase.{Phase}
 use Rattle.fal_story.proofs.Steps.Posted.{IsFine}
-use Rattle.fal_story.proofs.Trees.Standing.{table_of}
 use Rattle.fal_story.proofs.View.{IsPosted, seat}
 use Rattle.fal_story.proofs.Families.Clear.{IsShut}
 use Rattle.fal_story.proofs.Steps.Reads.{read_row}
@@ -98,7 +99,7 @@ same_node a b e = cc
 owns_key : (config : Config) (w : World) (n : ℕ) (h : Ghost) (e p asker number : ℕ) (key : Key) → Shows config w h → IsPosted (posts_of w.envelopes) e (Node n) p (message.FetchAsk asker number key)
     → owner (w.nodes n).table key ≡ (w.nodes n).number
 owns_key config w n h e p asker number key s sent =
-    ap (λ t. owner t key) (s.placed n).table ∙ sym (same_node n (owner (table_of config) key) (s.good.asking.owners e p asker number (Node n) key sent)) ∙ sym (s.placed n).number
+    ap (λ t. owner t key) (node_table config w h s n) ∙ sym (same_node n (owner w.coord.table key) (asked_owner config w h s e p asker number (Node n) key sent)) ∙ sym (s.placed n).number
 
 -- and is not shut
 open_key : (node : NodeState) (key : Key) → owner node.table key ≡ node.number → can_tell node key ≡ true → IsShut node.locks.shut key → ⊥
@@ -115,19 +116,21 @@ fine_served : (config : Config) (w : World) (n : ℕ) (h : Ghost) (e p asker num
     → can_tell (w.nodes n) key ≡ true → IsFine config (view_of config w h) (Node asker) (length w.commits + 0) (message.FetchGot number key (found_of (row_at (w.nodes n).rows key)))
 fine_served config w n h e p asker number key there s sent can =
     let g = s.good in
-    let owned = same_node n (owner (table_of config) key) (g.asking.owners e p asker number (Node n) key sent) in
+    let owned = same_node n (owner w.coord.table key) (asked_owner config w h s e p asker number (Node n) key sent) in
     let off = open_key (w.nodes n) key (owns_key config w n h e p asker number key s sent) can in
     record {
       asking = (
         asker,
         refl,
         omega arith,
-        ap found_of (read_row config (view_of config w h) n key there (sym owned) off g),
+        ap found_of (read_row config (view_of config w h) n key there (sym owned) off (λ is. subst (λ b. IsBarred b key.name) (none_barred config w h s n) is) g),
         (g.asking.numbers.ask e p (Node n) asker number key sent).1,
         λ j f at same. (g.asking.fetches asker j f at).1.1.asks e p (Node n) key (subst (λ i. IsPosted (posts_of w.envelopes) e (Node n) p (message.FetchAsk asker i key)) (sym same) sent),
       );
       records = (asker, refl);
       operation = tt;
+      bars = tt;
+      knowing = tt;
     }
 
 -- ---- the step

@@ -26,22 +26,24 @@ use Rattle.fal_wait.specs.declared.waiting_call.WaitingCall.{WaitingCall}
 use Rattle.fal_wait.specs.Waiting.{WaitList, after_cancel, unbound, fetch_of}
 use Rattle.fal_wire.specs.declared.message.Message.{Message}
 use Rattle.fal_wire.specs.declared.message.Message.TheVariants as message
+use Rattle.fal_story.proofs.Events.FirstTable.{node_table}
 use Rattle.fal_story.proofs.Events.Freed.{IsFreed, freed_moves, beside_freed, lock_listed, locks_gone}
 use Rattle.fal_story.proofs.Events.GotEvent.{AllFit}
 use Rattle.fal_story.proofs.Events.HeldCalls.{heard_moves, others_held}
 use Rattle.fal_story.proofs.Events.InStep.{at_seat, view_begun, view_in, letter_posts, sent_more, Ends, ends}
 use Rattle.fal_story.proofs.Events.Shows.{Ghost, Shows, Held, IsTidy, WaitsAt, PlannedAt, lane_of, operating, shut_of, last_of, listed_of, is_lock, view_of, posts_of, calls_in}
+use Rattle.fal_story.proofs.Families.Bars.{Bar}
 use Rattle.fal_story.proofs.Families.Operation.{Stands, shut_by}
 use Rattle.fal_story.proofs.Good.{Good}
 use Rattle.fal_story.proofs.Lists.Each.{each_weaker}
 use Rattle.fal_story.proofs.Lists.Grown.{tells, put_back, put_other, put_same}
 use Rattle.fal_story.proofs.Lists.Members.{IsIn, each_all, each_map, apart_map, each_without_first}
 use Rattle.fal_story.proofs.Lists.WaitLists.{rising_map}
-use Rattle.fal_story.proofs.Phase.{Phase, Idle, Asked, Waits, Plans, Runs, Tells, IsHeld, IsCrossing}
+use Rattle.fal_story.proofs.Phase.{Phase, Idle, Asked, Waits, Plans, Runs, Tells, IsHeld, IsCrossing, Told}
 use Rattle.fal_story.proofs.Steps.Arrives.{served_lock_good}
 use Rattle.fal_story.proofs.Steps.Fetching.{closed_good}
 use Rattle.fal_story.proofs.Steps.Moved.{MayMove, held_for, moved_good}
-use Rattle.fal_story.proofs.View.{View, Kept, Work as Doing, Rests, Walks, Locks, Counts, Ends as EndsAt, post}
+use Rattle.fal_story.proofs.View.{View, Kept, Work as Doing, Rests, Walks, Locks, Counts, Ends as EndsAt, post, Blocks, Lands}
 use Rattle.fal_story.specs.World.{World, put}
 
 -- ---- every call that waits at the node is free
@@ -52,6 +54,7 @@ freed_at n (Asked m) = Asked m
 freed_at n (Waits m fetch) = if m == n then Waits n None else Waits m fetch
 freed_at n (Plans m x) = Plans m x
 freed_at n Runs = Runs
+freed_at n (Told old new) = Told old new
 freed_at n (Tells answer) = Tells answer
 
 abbrev pub free_all : ℕ → (ℕ → Phase) → ℕ → Phase
@@ -66,6 +69,7 @@ freed_cases n (Waits m fetch) = ⊎_elim {C = (freed_at n (Waits m fetch) ≡ Wa
     (tells m n)
 freed_cases n (Plans m x) = inl refl
 freed_cases n Runs = inl refl
+freed_cases n (Told old new) = inl refl
 freed_cases n (Tells answer) = inl refl
 
 pub freed_is : (n : ℕ) (p : Phase) → IsFreed n p (freed_at n p)
@@ -94,6 +98,7 @@ still_planned n (Waits m (Some fetch)) at = absurd (⊎_elim
     (tells m n))
 still_planned n (Plans m x) at = (x, λ i. Plans (at i) x)
 still_planned n Runs at = absurd at
+still_planned n (Told old new) at = absurd at
 still_planned n (Tells answer) at = absurd at
 
 held_cancelled : (call : ℕ → CallRec) (phase : ℕ → Phase) (n : ℕ) (ws : List WaitingCall) (ps : List BatchCall) → Held call phase n ws ps → Held call (free_all n phase) n (map unbound ws) ps
@@ -165,11 +170,14 @@ record IsLocking (operation o : ℕ) (keys : List Key) (work : Doing) : Type 0 w
 same_lock : (o p : ℕ) (keys locked : List Key) → ◌≡◌ {A = Option Message} (Some (message.Lock o keys)) (Some (message.Lock p locked)) → (o ≡ p) × (keys ≡ locked)
 same_lock o p keys locked e = (cc, cc)
 
-locking_at : (table : Placement) (operation n o : ℕ) (keys : List Key) (work : Doing) (shut : Option Shut) (queued : Option Message) (last : ℕ) (due : List Update) → queued ≡ Some (message.Lock o keys)
-    → Stands table operation work n shut queued last due → IsLocking operation o keys work
-locking_at table operation n o keys Rests shut queued last due is stands = let none = stands.2 in absurd (cc)
-locking_at table operation n o keys (Walks lane) shut queued last due is stands = let none = stands.2 in absurd (cc)
-locking_at table operation n o keys (Locks lane locked walks missing rows) shut queued last due is stands = ⊎_elim
+no_block : (o p : ℕ) (keys : List Key) (name : List ℕ) → ◌≡◌ {A = Option Message} (Some (message.Lock o keys)) (Some (message.Block p name)) → ⊥
+no_block o p keys name e = cc
+
+locking_at : (table own : Placement) (operation n o : ℕ) (keys : List Key) (work : Doing) (shut : Option Shut) (barred : Option (ℕ × List ℕ)) (queued : Option Message) (last : ℕ) (due : List Update) → queued ≡ Some (message.Lock o keys)
+    → Stands table operation work n shut queued last due → Bar table operation work n own barred queued last due → IsLocking operation o keys work
+locking_at table own operation n o keys Rests shut barred queued last due is stands bar = let none = stands.2 in absurd (cc)
+locking_at table own operation n o keys (Walks lane) shut barred queued last due is stands bar = let none = stands.2 in absurd (cc)
+locking_at table own operation n o keys (Locks lane locked walks missing rows) shut barred queued last due is stands bar = ⊎_elim
     (λ x. ⊎_elim
     (λ away. let none = away.1 in absurd (cc))
     (λ here.
@@ -178,8 +186,13 @@ locking_at table operation n o keys (Locks lane locked walks missing rows) shut 
     x.1)
     (λ has. let none = has.1 in absurd (cc))
     stands.1
-locking_at table operation n o keys (Counts lane locked walks missing rows dir updates sum) shut queued last due is stands = let none = stands.1.1 in absurd (cc)
-locking_at table operation n o keys (EndsAt locked updates missing) shut queued last due is stands = ⊎_elim
+locking_at table own operation n o keys (Counts lane locked walks missing rows dir updates sum) shut barred queued last due is stands bar = let none = stands.1.1 in absurd (cc)
+locking_at table own operation n o keys (Blocks lane name rule missing came) shut barred queued last due is stands bar = ⊎_elim
+    (λ x. ⊎_elim (λ away. let none = away.0 in absurd (cc)) (λ here. absurd (no_block o operation keys name (sym is ∙ here.0))) x.3)
+    (λ x. let none = x.1.0 in absurd (cc))
+    bar.1
+locking_at table own operation n o keys (Lands name rule old missing) shut barred queued last due is stands bar = ⊎_elim (λ x. let none = x.3.0 in absurd (cc)) (λ x. let none = x.3.0 in absurd (cc)) bar
+locking_at table own operation n o keys (EndsAt locked updates missing) shut barred queued last due is stands bar = ⊎_elim
     (λ x. let none = x.2.1 in absurd (cc))
     (λ x. let none = x.2 in absurd (cc))
     stands
@@ -205,7 +218,7 @@ lock_served config w n h item operation keys there other s found is can fit =
     let listed = subst (IsIn item.message) (s.beside.queues n) (lock_listed test node.items item found lock) in
     let queued = listed_is (h.queued n) item.message listed in
     let queued_lock : h.queued n ≡ Some (message.Lock operation keys) = queued ∙ ap Some is in
-    let locking = locking_at v.map.table w.coord.operation n operation keys v.op.work (v.op.shut n) (h.queued n) (v.op.last n) (h.due n) queued_lock (s.good.operation.stands n there) in
+    let locking = locking_at v.map.table (v.map.tables n) w.coord.operation n operation keys v.op.work (v.op.shut n) (v.map.barred n) (h.queued n) (v.op.last n) (h.due n) queued_lock (s.good.operation.stands n there) (s.good.bars.stands n there) in
     let phase = free_all n h.phase in
     let later : Ghost = record h { phase = free_all n h.phase; queued = put h.queued n None } in
     let k = locked_work w n item.number operation keys in
@@ -223,7 +236,7 @@ lock_served config w n h item operation keys there other s found is can fit =
     let same : v3 ≡ view_in config w n k later = λ i. record (view_begun config w n h other i) {
       replica = put v.replica n (without_keys (at_seat (λ m. (w.nodes m).replica) w.coord.replica n other i) keys);
       fetches = v2.fetches;
-      posts = posts_of w.envelopes ++ post (Node 255) (length w.commits + 0) (locked_of (sym placed.table i) node.rows (sym placed.number i) (sym locking.number i) keys) ∷ [];
+      posts = posts_of w.envelopes ++ post (Node 255) (length w.commits + 0) (locked_of (sym (node_table config w h s n) i) node.rows (sym placed.number i) (sym locking.number i) keys) ∷ [];
       phase = phase;
       op = operating (put (shut_of w.nodes) n (shut_by (sym locking.number i) keys)) (sym (put_back (last_of w.nodes) n) i) w.coord later;
     } in

@@ -3,6 +3,8 @@ use Rattle.std.proofs.Common.{◌≡◌, ◌≢◌, ℕ, ◌+◌, ◌<◌, ◌==
 use Rattle.std.specs.Prelude.{slice_get, map, filter, IsTrue, if◌then◌else◌, IsSome}
 use Rattle.std.specs.List.{list_any}
 use Rattle.std.specs.Result.{result_ok}
+use Rattle.fal_base.specs.declared.barred.Barred.TheVariants as blocked
+use Rattle.fal_base.specs.declared.barred.Barred.{Barred}
 use Rattle.fal_base.specs.declared.call.CallRec.{CallRec}
 use Rattle.fal_base.specs.declared.call.Config.{Config}
 use Rattle.fal_base.specs.declared.event.Actor.TheVariants.{Node}
@@ -26,6 +28,8 @@ use Rattle.fal_locks.specs.Keys.{has_key}
 use Rattle.fal_locks.specs.Locks.{LockTable}
 use Rattle.fal_locks.specs.declared.holder.Shut.{Shut}
 use Rattle.fal_node.specs.declared.batch.Batch.{Batch}
+use Rattle.fal_node.specs.declared.blocking.Blocking.{Blocking}
+use Rattle.fal_place.specs.Placement.{Placement, Placing}
 use Rattle.fal_run.specs.declared.call.BatchCall.{BatchCall}
 use Rattle.fal_node.specs.declared.item.Item.{Item}
 use Rattle.fal_node.specs.State.{NodeState, batch_of}
@@ -45,7 +49,8 @@ use Rattle.fal_story.proofs.View.{View, Post, Asking, Operating, Mapped, IsPoste
 use Rattle.fal_story.specs.World.{World, put}
 
 -- what no state has: of each lane its last call, the commits when it was sent, where it is, and the keys on which its place rests; of each
--- node the Lock that is its next item, and the updates that it has still to lay; and the calls for which operations were started
+-- node the Lock or the Block that is its next item, and the updates that it has still to lay; the calls for which operations were started;
+-- and the placements that were made, and the table before the last of them
 pub record Ghost : Type 0 where
   pub call : ℕ → CallRec
   pub since : ℕ → ℕ
@@ -54,6 +59,8 @@ pub record Ghost : Type 0 where
   pub queued : ℕ → Option Message
   pub due : ℕ → List Update
   pub starts : List (ℕ × ℕ)
+  pub placings : List Placing
+  pub before : Placement
 
 abbrev pub post_of : Envelope → Post
 post_of e = record { to = seat e.to; point = e.point; message = result_ok (reading e.bytes) }
@@ -73,7 +80,7 @@ operating shut last coord h = record {
   last = last;
   due = h.due;
   operation = coord.operation;
-  work = work_of coord.stage;
+  work = work_of h.before coord.stage;
   starts = h.starts;
   crossed = h.crossed;
 }
@@ -98,9 +105,30 @@ shut_of nodes = λ m. (nodes m).locks.shut
 abbrev pub last_of : (ℕ → NodeState) → ℕ → ℕ
 last_of nodes = λ m. (nodes m).last_operation
 
--- rows live where the opening table says
-abbrev pub mapped : Config → Mapped
-mapped config = record { table = table_of config }
+-- ---- where rows live
+
+-- the operation and the name that a node has blocked
+abbrev pub barred_name : ℕ → Barred → Option (ℕ × List ℕ)
+barred_name operation blocked.Nothing = None
+barred_name operation (blocked.One name) = Some (operation, name)
+barred_name operation blocked.All = None
+
+abbrev pub barred_of : Option Blocking → Option (ℕ × List ℕ)
+barred_of None = None
+barred_of (Some blocking) = barred_name blocking.operation blocking.names
+
+abbrev pub tables_of : (ℕ → NodeState) → ℕ → Placement
+tables_of nodes = λ m. (nodes m).table
+
+abbrev pub barred_in : (ℕ → NodeState) → ℕ → Option (ℕ × List ℕ)
+barred_in nodes = λ m. barred_of (nodes m).blocked
+
+abbrev pub known_of : (ℕ → ClientState) → ℕ → Placement
+known_of clients = λ l. (clients l).table
+
+-- the recorded table is the coordinator's
+abbrev pub mapped : (ℕ → Placement) → (ℕ → Option (ℕ × List ℕ)) → (ℕ → ClientState) → CoordState → Ghost → Mapped
+mapped tables barred clients coord h = record { table = coord.table; placings = h.placings; tables = tables; barred = barred; known = known_of clients }
 
 abbrev pub view_of : Config → World → Ghost → View
 view_of config w h = record {
@@ -118,7 +146,7 @@ view_of config w h = record {
   since = h.since;
   phase = h.phase;
   op = operating (shut_of w.nodes) (last_of w.nodes) w.coord h;
-  map = mapped config;
+  map = mapped (tables_of w.nodes) (barred_in w.nodes) w.clients w.coord h;
 }
 
 -- ---- lists

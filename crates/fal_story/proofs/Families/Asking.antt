@@ -43,9 +43,12 @@ Founds posts commits =
     (e n p number : ℕ) (key : Key) (what : Found) → IsPosted posts e (Node n) p (message.FetchGot number key what)
     → (p ≤ length commits) × (what ≡ found_of (row_at (tree_at commits p) key))
 
--- a question goes to the node that owns the key
-abbrev pub Owners : Placement → List Post → Type 0
-Owners table posts = (e p n number : ℕ) (to : Actor) (key : Key) → IsPosted posts e to p (message.FetchAsk n number key) → to ≡ Node (owner table key)
+-- a question goes to a node, and before the first placement to the one that owns the key
+abbrev pub GoesTo : ℕ → Placement → Actor → Key → Type 0
+GoesTo nodes table to key = (n : ℕ) × (to ≡ Node n) × (n < nodes) × (table.version ≡ 0 → n ≡ owner table key)
+
+abbrev pub Owners : ℕ → Placement → List Post → Type 0
+Owners nodes table posts = (e p n number : ℕ) (to : Actor) (key : Key) → IsPosted posts e to p (message.FetchAsk n number key) → GoesTo nodes table to key
 
 abbrev pub IsCrossed : List Key → Key → Type 0
 IsCrossed crossed key = is_among key crossed ≡ true
@@ -79,7 +82,7 @@ pub record Askings (nodes : ℕ) (table : Placement) (pending : ℕ → List Ask
   pub fetches : (n j : ℕ) (f : Asking) → slice_get (pending n) j ≡ Some f → IsPending opened commits posts call since phase crossed n f
   pub numbers : Numbers nodes posts opened
   pub waits_drawn : WaitsDrawn phase opened
-  pub owners : Owners table posts
+  pub owners : Owners nodes table posts
 
 -- ---- what has to hold of a record when it is sent
 
@@ -88,7 +91,7 @@ abbrev pub IsForKey : (ℕ → List Asking) → ℕ → ℕ → Key → Type 0
 IsForKey pending n number key = (j : ℕ) (f : Asking) → slice_get (pending n) j ≡ Some f → f.number ≡ number → key ≡ f.key
 
 abbrev pub FineAsking : ℕ → Placement → (ℕ → List Asking) → (ℕ → ℕ) → List Commit → Actor → ℕ → Message → Type 0
-FineAsking nodes table pending opened commits to p (message.FetchAsk n number key) = ((n < nodes) ⊎ (n ≡ 255)) × (number < opened n) × (to ≡ Node (owner table key)) × IsForKey pending n number key
+FineAsking nodes table pending opened commits to p (message.FetchAsk n number key) = ((n < nodes) ⊎ (n ≡ 255)) × (number < opened n) × GoesTo nodes table to key × IsForKey pending n number key
 FineAsking nodes table pending opened commits to p (message.FetchGot number key what) =
     (n : ℕ) × (to ≡ Node n) × (p ≡ length commits) × (what ≡ found_of (row_at (tree_now commits) key)) × (number < opened n) × IsForKey pending n number key
 FineAsking nodes table pending opened commits to p other = Unit {0}
@@ -362,4 +365,15 @@ module _ {nodes : ℕ} {table : Placement} {fetches : ℕ → List Asking} {open
     numbers = g.numbers;
     waits_drawn = λ a n number e. ⊎_elim (λ y. absurd (subst IsBare y.1 bare)) (λ y. g.waits_drawn a n number y.1) (from_put phase l p a _ e);
     owners = g.owners;
+  }
+
+  -- the next table, which is not the first
+  pub asking_retabled : (table' : Placement) → table'.version ≢ 0 → Askings nodes table' fetches opened posts commits call since phase crossed
+  asking_retabled table' later = record {
+    found_dirs = g.found_dirs;
+    founds = g.founds;
+    fetches = g.fetches;
+    numbers = g.numbers;
+    waits_drawn = g.waits_drawn;
+    owners = λ e p n number to key posted. let x = g.owners e p n number to key posted in (x.0, x.1, x.2, λ none. absurd (later none));
   }

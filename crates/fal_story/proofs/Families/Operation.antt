@@ -26,7 +26,7 @@ use Rattle.fal_locks.specs.declared.holder.Shut.{Shut}
 use Rattle.fal_story.proofs.Lists.Grown.{tells}
 use Rattle.fal_story.proofs.Phase.{Phase, Runs, IsPast}
 use Rattle.fal_story.proofs.Trees.Standing.{tree_now, NoneUnder}
-use Rattle.fal_story.proofs.View.{Post, Asking, IsPosted, Kept, Work, Rests, Walks, Locks, Counts, Ends}
+use Rattle.fal_story.proofs.View.{Post, Asking, IsPosted, Kept, Work, Rests, Walks, Locks, Counts, Ends, Blocks, Lands}
 
 -- ---- numbers of nodes
 
@@ -64,6 +64,8 @@ Stands table operation (Walks lane) n shut queued last due = (due ≡ []) × (sh
 Stands table operation (Locks lane keys walks missing rows) n shut queued last due =
     (due ≡ []) × ((IsMissing n missing × (IsAway operation shut queued last ⊎ IsQueued operation keys shut queued last)) ⊎ HasShut operation keys shut queued last)
 Stands table operation (Counts lane keys walks missing rows dir updates sum) n shut queued last due = (due ≡ []) × HasShut operation keys shut queued last
+Stands table operation (Blocks lane name rule missing came) n shut queued last due = (shut ≡ None) × (last ≤ operation)
+Stands table operation (Lands name rule old missing) n shut queued last due = (shut ≡ None) × (last ≤ operation)
 Stands table operation (Ends keys updates missing) n shut queued last due =
     ((due ≡ owned table n updates) × IsMissing n missing × HasShut operation keys shut queued last) ⊎ ((due ≡ []) × (shut ≡ None) × (queued ≡ None) × (last ≡ operation))
 
@@ -75,6 +77,8 @@ LocksKeys Rests keys = ⊥
 LocksKeys (Walks lane) keys = ⊥
 LocksKeys (Locks lane locked walks missing rows) keys = locked ≡ keys
 LocksKeys (Counts lane locked walks missing rows dir updates sum) keys = locked ≡ keys
+LocksKeys (Blocks lane name rule missing came) keys = ⊥
+LocksKeys (Lands name rule old missing) keys = ⊥
 LocksKeys (Ends locked updates missing) keys = locked ≡ keys
 
 abbrev pub ToldLocked : Placement → Tree → ℕ → Work → Option Shut → ℕ → List Update → Type 0
@@ -82,6 +86,8 @@ ToldLocked table tree operation Rests shut n rows = Unit {0}
 ToldLocked table tree operation (Walks lane) shut n rows = ⊥
 ToldLocked table tree operation (Locks lane keys walks missing kept) shut n rows = (shut ≡ shut_by operation keys) × (rows ≡ rows_of table tree n keys)
 ToldLocked table tree operation (Counts lane keys walks missing kept dir updates sum) shut n rows = (shut ≡ shut_by operation keys) × (rows ≡ rows_of table tree n keys)
+ToldLocked table tree operation (Blocks lane name rule missing came) shut n rows = ⊥
+ToldLocked table tree operation (Lands name rule old missing) shut n rows = ⊥
 ToldLocked table tree operation (Ends keys updates missing) shut n rows = Unit {0}
 
 abbrev pub ToldCommit : Work → List Update → Type 0
@@ -89,6 +95,8 @@ ToldCommit Rests updates = Unit {0}
 ToldCommit (Walks lane) updates = ⊥
 ToldCommit (Locks lane keys walks missing rows) updates = ⊥
 ToldCommit (Counts lane keys walks missing rows dir made sum) updates = ⊥
+ToldCommit (Blocks lane name rule missing came) updates = ⊥
+ToldCommit (Lands name rule old missing) updates = ⊥
 ToldCommit (Ends keys made missing) updates = made ≡ updates
 
 abbrev pub ToldDone : Work → Option Shut → Type 0
@@ -96,6 +104,8 @@ ToldDone Rests shut = Unit {0}
 ToldDone (Walks lane) shut = ⊥
 ToldDone (Locks lane keys walks missing rows) shut = ⊥
 ToldDone (Counts lane keys walks missing rows dir made sum) shut = ⊥
+ToldDone (Blocks lane name rule missing came) shut = ⊥
+ToldDone (Lands name rule old missing) shut = ⊥
 ToldDone (Ends keys made missing) shut = shut ≡ None
 
 abbrev pub IsCounted : Placement → Tree → ℕ → ℕ → ℕ → Type 0
@@ -106,6 +116,8 @@ ToldCounted table tree Rests n number = Unit {0}
 ToldCounted table tree (Walks lane) n number = ⊥
 ToldCounted table tree (Locks lane keys walks missing rows) n number = ⊥
 ToldCounted table tree (Counts lane keys walks missing rows dir updates sum) n number = IsCounted table tree n dir number
+ToldCounted table tree (Blocks lane name rule missing came) n number = ⊥
+ToldCounted table tree (Lands name rule old missing) n number = ⊥
 ToldCounted table tree (Ends keys updates missing) n number = Unit {0}
 
 abbrev pub ToldCount : Work → ℕ → Type 0
@@ -113,6 +125,8 @@ ToldCount Rests asked = Unit {0}
 ToldCount (Walks lane) asked = ⊥
 ToldCount (Locks lane keys walks missing rows) asked = ⊥
 ToldCount (Counts lane keys walks missing rows dir updates sum) asked = dir ≡ asked
+ToldCount (Blocks lane name rule missing came) asked = ⊥
+ToldCount (Lands name rule old missing) asked = ⊥
 ToldCount (Ends keys updates missing) asked = Unit {0}
 
 -- what a record tells of the operation; the coordinator asks for a row only for one
@@ -137,6 +151,8 @@ AreKept tree call Rests = Unit {0}
 AreKept tree call (Walks lane) = Unit {0}
 AreKept tree call (Locks lane keys walks missing rows) = All (IsKept tree (call lane).cred) walks
 AreKept tree call (Counts lane keys walks missing rows dir updates sum) = All (IsKept tree (call lane).cred) walks
+AreKept tree call (Blocks lane name rule missing came) = Unit {0}
+AreKept tree call (Lands name rule old missing) = Unit {0}
 AreKept tree call (Ends keys updates missing) = Unit {0}
 
 -- the row that was told first under the key
@@ -151,6 +167,8 @@ AreHeard table tree (Walks lane) = Unit {0}
 AreHeard table tree (Locks lane keys walks missing rows) = (key : Key) → is_among key keys ≡ true
     → (IsMissing (owner table key) missing × (row_told rows key ≡ None)) ⊎ ((IsMissing (owner table key) missing → ⊥) × (row_told rows key ≡ Some (row_at tree key)))
 AreHeard table tree (Counts lane keys walks missing rows dir updates sum) = (key : Key) → is_among key keys ≡ true → row_told rows key ≡ Some (row_at tree key)
+AreHeard table tree (Blocks lane name rule missing came) = Unit {0}
+AreHeard table tree (Lands name rule old missing) = Unit {0}
 AreHeard table tree (Ends keys updates missing) = Unit {0}
 
 -- the directory of which the rows are counted stands under a key that is locked
@@ -175,6 +193,8 @@ IsOf l Rests = ⊥
 IsOf l (Walks lane) = ⊥
 IsOf l (Locks lane keys walks missing rows) = lane ≡ l
 IsOf l (Counts lane keys walks missing rows dir updates sum) = lane ≡ l
+IsOf l (Blocks lane name rule missing came) = lane ≡ l
+IsOf l (Lands name rule old missing) = ⊥
 IsOf l (Ends keys updates missing) = ⊥
 
 -- the coordinator asks for nothing but while it walks

@@ -15,7 +15,7 @@ use Rattle.fal_story.proofs.Families.Operation.{AreKept, IsKept, IsOf, IsQuiet, 
 use Rattle.fal_story.proofs.Lists.Grown.{from_put, put_all, put_both, put_other}
 use Rattle.fal_story.proofs.Phase.{Phase, Runs, IsPast, IsSteady}
 use Rattle.fal_story.proofs.Trees.Standing.{tree_now}
-use Rattle.fal_story.proofs.View.{posted_more, Post, Asking, post, Work, Rests, Walks, Locks, Counts, Ends}
+use Rattle.fal_story.proofs.View.{posted_more, Post, Asking, post, Work, Rests, Walks, Locks, Counts, Ends, Blocks, Lands}
 use Rattle.fal_story.specs.World.{put}
 
 -- another lane's call
@@ -24,6 +24,8 @@ kept_call tree call call' Rests same kept = tt
 kept_call tree call call' (Walks lane) same kept = tt
 kept_call tree call call' (Locks lane keys walks missing rows) same kept = subst (λ (c : CallRec). All (IsKept tree c.cred) walks) (sym (same lane refl)) kept
 kept_call tree call call' (Counts lane keys walks missing rows dir updates sum) same kept = subst (λ (c : CallRec). All (IsKept tree c.cred) walks) (sym (same lane refl)) kept
+kept_call tree call call' (Blocks lane name rule missing came) same kept = tt
+kept_call tree call call' (Lands name rule old missing) same kept = tt
 kept_call tree call call' (Ends keys updates missing) same kept = tt
 
 module _ {nodes : ℕ} {table : Placement} {shut : ℕ → Option Shut} {queued : ℕ → Option Message} {last : ℕ → ℕ} {due : ℕ → List Update} {operation : ℕ} {work : Work} {starts : List (ℕ × ℕ)}

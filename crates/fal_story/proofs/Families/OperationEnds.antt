@@ -21,7 +21,7 @@ use Rattle.fal_story.proofs.Families.Operation.{HasShut, IsOf, IsQuiet, IsTold, 
 use Rattle.fal_story.proofs.Lists.Grown.{from_put, put_all}
 use Rattle.fal_story.proofs.Phase.{Phase, Runs, Tells, Replies, IsPast}
 use Rattle.fal_story.proofs.Trees.Standing.{tree_now}
-use Rattle.fal_story.proofs.View.{Post, Asking, Work, Rests, Walks, Locks, Counts, Ends}
+use Rattle.fal_story.proofs.View.{Post, Asking, Work, Rests, Walks, Locks, Counts, Ends, Blocks, Lands}
 use Rattle.fal_story.specs.World.{put}
 
 -- ---- the decision
@@ -32,6 +32,8 @@ IsReady Rests l keys = ⊥
 IsReady (Walks lane) l keys = ⊥
 IsReady (Locks lane locked walks missing rows) l keys = (lane ≡ l) × (locked ≡ keys) × (missing ≡ [])
 IsReady (Counts lane locked walks missing rows dir updates sum) l keys = (lane ≡ l) × (locked ≡ keys) × (missing ≡ [])
+IsReady (Blocks lane name rule left came) l keys = ⊥
+IsReady (Lands name rule old left) l keys = ⊥
 IsReady (Ends locked updates missing) l keys = ⊥
 
 pub ready_of : (work : Work) (l : ℕ) (keys : List Key) → IsReady work l keys → IsOf l work
@@ -39,6 +41,8 @@ ready_of Rests l keys is = is
 ready_of (Walks lane) l keys is = absurd is
 ready_of (Locks lane locked walks missing rows) l keys is = is.0
 ready_of (Counts lane locked walks missing rows dir updates sum) l keys is = is.0
+ready_of (Blocks lane name rule left came) l keys is = absurd is
+ready_of (Lands name rule old left) l keys is = absurd is
 ready_of (Ends locked updates missing) l keys is = absurd is
 
 pub ready_quiet : (work : Work) (l : ℕ) (keys : List Key) (own : List Asking) → IsReady work l keys → IsQuiet work own → own ≡ []
@@ -46,6 +50,8 @@ ready_quiet Rests l keys own is quiet = quiet
 ready_quiet (Walks lane) l keys own is quiet = absurd is
 ready_quiet (Locks lane locked walks missing rows) l keys own is quiet = quiet
 ready_quiet (Counts lane locked walks missing rows dir updates sum) l keys own is quiet = quiet
+ready_quiet (Blocks lane name rule left came) l keys own is quiet = absurd is
+ready_quiet (Lands name rule old left) l keys own is quiet = absurd is
 ready_quiet (Ends locked updates missing) l keys own is quiet = quiet
 
 same_lane : (work : Work) (a l : ℕ) → IsOf a work → IsOf l work → a ≡ l
@@ -53,6 +59,8 @@ same_lane Rests a l p q = absurd p
 same_lane (Walks lane) a l p q = absurd p
 same_lane (Locks lane keys walks missing rows) a l p q = sym p ∙ q
 same_lane (Counts lane keys walks missing rows dir updates sum) a l p q = sym p ∙ q
+same_lane (Blocks lane name rule left came) a l p q = sym p ∙ q
+same_lane (Lands name rule old left) a l p q = absurd p
 same_lane (Ends keys updates missing) a l p q = absurd p
 
 not_walking : (work : Work) (l a : ℕ) (keys : List Key) → IsReady work l keys → work ≡ Walks a → ⊥
@@ -69,6 +77,8 @@ ready_shut table operation n l (Locks lane locked walks missing rows) keys shut 
       (⊎_elim (λ x. let none : false ≡ true = ap (list_any (λ m. m == n)) (sym is.2) ∙ x.0 in absurd (cc)) (λ x. x) stands.1),
 )
 ready_shut table operation n l (Counts lane locked walks missing rows dir updates sum) keys shut queued last due is stands = (stands.0, subst (λ ks. HasShut operation ks shut queued last) is.1 stands.1)
+ready_shut table operation n l (Blocks lane name rule left came) keys shut queued last due is stands = absurd is
+ready_shut table operation n l (Lands name rule old left) keys shut queued last due is stands = absurd is
 ready_shut table operation n l (Ends locked updates missing) keys shut queued last due is stands = absurd is
 
 -- what was told stays so
@@ -77,6 +87,8 @@ decided_keys Rests l keys other updates missing is locks = absurd is
 decided_keys (Walks lane) l keys other updates missing is locks = absurd is
 decided_keys (Locks lane locked walks gone rows) l keys other updates missing is locks = sym is.1 ∙ locks
 decided_keys (Counts lane locked walks gone rows dir made sum) l keys other updates missing is locks = sym is.1 ∙ locks
+decided_keys (Blocks lane name rule left came) l keys other updates missing is locks = absurd is
+decided_keys (Lands name rule old left) l keys other updates missing is locks = absurd is
 decided_keys (Ends locked made gone) l keys other updates missing is locks = absurd is
 
 no_commit : (work : Work) (l : ℕ) (keys : List Key) (updates : List Update) → IsReady work l keys → ToldCommit work updates → ⊥
@@ -84,6 +96,8 @@ no_commit Rests l keys updates is told = is
 no_commit (Walks lane) l keys updates is told = is
 no_commit (Locks lane locked walks missing rows) l keys updates is told = told
 no_commit (Counts lane locked walks missing rows dir made sum) l keys updates is told = told
+no_commit (Blocks lane name rule left came) l keys updates is told = is
+no_commit (Lands name rule old left) l keys updates is told = is
 no_commit (Ends locked made missing) l keys updates is told = is
 
 no_done : (work : Work) (l : ℕ) (keys : List Key) (shut : Option Shut) → IsReady work l keys → ToldDone work shut → ⊥
@@ -91,6 +105,8 @@ no_done Rests l keys shut is told = is
 no_done (Walks lane) l keys shut is told = is
 no_done (Locks lane locked walks missing rows) l keys shut is told = told
 no_done (Counts lane locked walks missing rows dir made sum) l keys shut is told = told
+no_done (Blocks lane name rule left came) l keys shut is told = is
+no_done (Lands name rule old left) l keys shut is told = is
 no_done (Ends locked made missing) l keys shut is told = is
 
 told_decided : (nodes : ℕ) (table : Placement) (tree after : Tree) (operation : ℕ) (work : Work) (shut : ℕ → Option Shut) (last : ℕ → ℕ) (to : Actor) (l : ℕ) (keys : List Key) (updates : List Update) (missing : List ℕ) → IsReady work l keys

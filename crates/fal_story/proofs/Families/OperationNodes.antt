@@ -14,7 +14,7 @@ use Rattle.fal_story.proofs.Families.Operation.{IsTold, LocksKeys, Operation, op
 use Rattle.fal_story.proofs.Lists.Grown.{put_all, put_both}
 use Rattle.fal_story.proofs.Phase.{Phase}
 use Rattle.fal_story.proofs.Trees.Standing.{tree_now}
-use Rattle.fal_story.proofs.View.{Post, Asking, Work, Rests, Walks, Locks, Counts, Ends}
+use Rattle.fal_story.proofs.View.{Post, Asking, Work, Rests, Walks, Locks, Counts, Ends, Blocks, Lands}
 use Rattle.fal_story.specs.World.{put}
 
 -- ---- a node that hears of the operation, and one that is done with it
@@ -32,6 +32,8 @@ stands_queued table operation n (Locks lane locked walks missing rows) keys shut
       stands.1),
 )
 stands_queued table operation n (Counts lane locked walks missing rows dir updates sum) keys shut queued last due newer locks stands = let same = stands.1.2 in absurd (omega arith)
+stands_queued table operation n (Blocks lane name rule left came) keys shut queued last due newer locks stands = absurd locks
+stands_queued table operation n (Lands name rule old left) keys shut queued last due newer locks stands = absurd locks
 stands_queued table operation n (Ends locked updates missing) keys shut queued last due newer locks stands = absurd (⊎_elim (λ x. let same = x.2.2 in omega arith) (λ x. let same = x.3 in omega arith) stands)
 
 -- what was told stays so when a node has heard of a later operation
@@ -54,6 +56,8 @@ stands_open table operation n Rests keys updates missing shut queued last due en
 stands_open table operation n (Walks lane) keys updates missing shut queued last due ends is stands = absurd (cc)
 stands_open table operation n (Locks lane locked walks gone rows) keys updates missing shut queued last due ends is stands = absurd (cc)
 stands_open table operation n (Counts lane locked walks gone rows dir made sum) keys updates missing shut queued last due ends is stands = absurd (cc)
+stands_open table operation n (Blocks lane name rule left came) keys updates missing shut queued last due ends is stands = absurd (cc)
+stands_open table operation n (Lands name rule old left) keys updates missing shut queued last due ends is stands = absurd (cc)
 stands_open table operation n (Ends locked made gone) keys updates missing shut queued last due ends is stands =
     inr (⊎_elim (λ x. (refl, refl, x.2.1, x.2.2)) (λ x. let none = x.1 in absurd (cc)) stands)
 
@@ -62,6 +66,8 @@ done_open Rests keys updates missing shut ends told = tt
 done_open (Walks lane) keys updates missing shut ends told = absurd told
 done_open (Locks lane locked walks gone rows) keys updates missing shut ends told = absurd told
 done_open (Counts lane locked walks gone rows dir made sum) keys updates missing shut ends told = absurd told
+done_open (Blocks lane name rule left came) keys updates missing shut ends told = absurd told
+done_open (Lands name rule old left) keys updates missing shut ends told = absurd told
 done_open (Ends locked made gone) keys updates missing shut ends told = refl
 
 locked_open : (table : Placement) (tree : Tree) (operation : ℕ) (work : Work) (keys : List Key) (updates : List Update) (missing : List ℕ) (shut : Option Shut) (n : ℕ) (rows : List Update) → work ≡ Ends keys updates missing
@@ -70,6 +76,8 @@ locked_open table tree operation Rests keys updates missing shut n rows ends tol
 locked_open table tree operation (Walks lane) keys updates missing shut n rows ends told = absurd told
 locked_open table tree operation (Locks lane locked walks gone kept) keys updates missing shut n rows ends told = absurd (cc)
 locked_open table tree operation (Counts lane locked walks gone kept dir made sum) keys updates missing shut n rows ends told = absurd (cc)
+locked_open table tree operation (Blocks lane name rule left came) keys updates missing shut n rows ends told = absurd told
+locked_open table tree operation (Lands name rule old left) keys updates missing shut n rows ends told = absurd told
 locked_open table tree operation (Ends locked made gone) keys updates missing shut n rows ends told = tt
 
 told_open : (nodes : ℕ) (table : Placement) (tree : Tree) (operation : ℕ) (work : Work) (shut : ℕ → Option Shut) (last : ℕ → ℕ) (n : ℕ) (keys : List Key) (updates : List Update) (missing : List ℕ) → work ≡ Ends keys updates missing → (to : Actor) (m : Message)

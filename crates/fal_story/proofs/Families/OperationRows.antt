@@ -26,7 +26,7 @@ use Rattle.fal_story.proofs.Lists.Grown.{from_put, put_all, tells, or_second}
 use Rattle.fal_story.proofs.Phase.{Phase, Runs, Tells, Replies, IsPast}
 use Rattle.fal_story.proofs.Trees.Changed.{IsChanged, ready_kept}
 use Rattle.fal_story.proofs.Trees.Standing.{tree_now, NoneUnder}
-use Rattle.fal_story.proofs.View.{Post, Asking, Kept, Work, Rests, Walks, Locks, Counts, Ends}
+use Rattle.fal_story.proofs.View.{Post, Asking, Kept, Work, Rests, Walks, Locks, Counts, Ends, Blocks, Lands}
 use Rattle.fal_story.specs.World.{put}
 
 -- ---- a row that changes under a key that nobody has shut
@@ -73,6 +73,8 @@ module _ (table : Placement) (t u : Tree) (operation : ℕ) (shut : ℕ → Opti
   told_locked (Walks lane) n rows told = absurd told
   told_locked (Locks lane keys walks missing kept) n rows told = told_rows n keys rows told
   told_locked (Counts lane keys walks missing kept dir updates sum) n rows told = told_rows n keys rows told
+  told_locked (Blocks lane name rule missing came) n rows told = absurd told
+  told_locked (Lands name rule old missing) n rows told = absurd told
   told_locked (Ends keys updates missing) n rows told = tt
 
   is_counted : (n dir number : ℕ) → ((key : Key) → key.parent ≡ dir → row_at u key ≡ row_at t key) → IsCounted table t n dir number → IsCounted table u n dir number
@@ -83,6 +85,8 @@ module _ (table : Placement) (t u : Tree) (operation : ℕ) (shut : ℕ → Opti
   counted_untouched (Walks lane) under n number told = told
   counted_untouched (Locks lane keys walks missing rows) under n number told = told
   counted_untouched (Counts lane keys walks missing rows dir updates sum) under n number told = is_counted n dir number under told
+  counted_untouched (Blocks lane name rule missing came) under n number told = told
+  counted_untouched (Lands name rule old missing) under n number told = told
   counted_untouched (Ends keys updates missing) under n number told = tt
 
   counts_untouched : (work : Work) → IsUnder t u work → AreCounted table t work → AreCounted table u work
@@ -91,6 +95,8 @@ module _ (table : Placement) (t u : Tree) (operation : ℕ) (shut : ℕ → Opti
   counts_untouched (Locks lane keys walks missing rows) under counts = tt
   counts_untouched (Counts lane keys walks missing rows dir updates sum) under counts =
       (λ n. ⊎_elim (λ gone. inl gone) (λ none. inr (λ zero_sum. none_under n dir under (none zero_sum))) (counts.0 n), λ some. some_under dir under (counts.1 some))
+  counts_untouched (Blocks lane name rule missing came) under counts = tt
+  counts_untouched (Lands name rule old missing) under counts = tt
   counts_untouched (Ends keys updates missing) under counts = tt
 
   dirs_untouched : (nodes : ℕ) (queued : ℕ → Option Message) (last : ℕ → ℕ) (due : ℕ → List Update) (work : Work) → ((key : Key) → owner table key < nodes)
@@ -100,6 +106,8 @@ module _ (table : Placement) (t u : Tree) (operation : ℕ) (shut : ℕ → Opti
   dirs_untouched nodes queued last due (Locks lane keys walks missing rows) lives stands dirs = tt
   dirs_untouched nodes queued last due (Counts lane keys walks missing rows dir updates sum) lives stands dirs =
       (dirs.0, dirs.1, subst (λ row. IsSomeAnd row (λ (r : Inode). r.ino ≡ dir)) (sym (same keys dirs.0 dirs.1 (stands (owner table dirs.0) (lives dirs.0)).1.0)) dirs.2)
+  dirs_untouched nodes queued last due (Blocks lane name rule missing came) lives stands dirs = tt
+  dirs_untouched nodes queued last due (Lands name rule old missing) lives stands dirs = tt
   dirs_untouched nodes queued last due (Ends keys updates missing) lives stands dirs = tt
 
   told_untouched : (nodes : ℕ) (work : Work) → IsUnder t u work → (last : ℕ → ℕ) (to : Actor) (m : Message) → IsTold nodes table t operation work shut last to m → IsTold nodes table u operation work shut last to m
@@ -127,6 +135,8 @@ module _ (table : Placement) (t u : Tree) (operation : ℕ) (shut : ℕ → Opti
       (stands (owner table key) (lives key)).1)
       (heard key among)
   heard_untouched nodes queued last due (Counts lane keys walks missing rows dir updates sum) lives stands heard = λ key among. row_kept rows keys key among (stands (owner table key) (lives key)).1.0 (heard key among)
+  heard_untouched nodes queued last due (Blocks lane name rule missing came) lives stands heard = tt
+  heard_untouched nodes queued last due (Lands name rule old missing) lives stands heard = tt
   heard_untouched nodes queued last due (Ends keys updates missing) lives stands heard = tt
 
 -- the kept walks end as they did
@@ -142,6 +152,8 @@ module _ (t u : Tree) (changed : IsChanged t u (λ q. Unit {0})) where
   walks_untouched call (Walks lane) kept = tt
   walks_untouched call (Locks lane keys walks missing rows) kept = walks_all (call lane).cred walks kept
   walks_untouched call (Counts lane keys walks missing rows dir updates sum) kept = walks_all (call lane).cred walks kept
+  walks_untouched call (Blocks lane name rule missing came) kept = tt
+  walks_untouched call (Lands name rule old missing) kept = tt
   walks_untouched call (Ends keys updates missing) kept = tt
 
 module _ {nodes : ℕ} {table : Placement} {shut : ℕ → Option Shut} {queued : ℕ → Option Message} {last : ℕ → ℕ} {due : ℕ → List Update} {operation : ℕ} {work : Work} {starts : List (ℕ × ℕ)}

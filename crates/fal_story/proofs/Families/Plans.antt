@@ -1,5 +1,5 @@
 -- Calls that are planned.
-use Rattle.std.proofs.Common.{◌≡◌, ◌⊎◌, inl, ⊎_elim, refl, ℕ, ◌<◌, Bool, true, false, List, [], ◌∷◌, ◌++◌, Option, IsSomeAnd, sym, subst}
+use Rattle.std.proofs.Common.{◌≡◌, ◌⊎◌, inl, ⊎_elim, refl, ℕ, ◌<◌, Bool, true, false, List, [], ◌∷◌, ◌++◌, Option, IsSomeAnd, sym, subst, ◌∙◌}
 use Rattle.std.specs.List.{All}
 use Rattle.std.specs.Option.{option_map}
 use Rattle.std.proofs.lemmas.List.Elements.{All-weaker}
@@ -54,6 +54,13 @@ module _ (t u : Tree) (Safe : Key → Type 0) (changed : IsChanged t u Safe) (ta
   planned_kept : IsPlanned table t n call crossed x → IsPlanned table u n call crossed x
   planned_kept is = weaker (row_names call.op) _ _ (planned_as x.denied) is
 
+-- ---- another table
+
+retabled : (table table' : Placement) (t : Tree) (n : ℕ) (call : CallRec) (crossed : List Key) (x : BatchCall) (denied : Bool) → (denied ≡ false → owner table' x.last ≡ owner table x.last) → (names : List (List ℕ))
+    → IsPlannedAs table t n call crossed x denied names → IsPlannedAs table' t n call crossed x denied names
+retabled table table' t n call crossed x true same names is = is
+retabled table table' t n call crossed x false same names is = (is.0, is.1, same refl ∙ is.2, is.3)
+
 module _ {nodes : ℕ} {table : Placement} {commits : List Commit} {call : ℕ → CallRec} {phase : ℕ → Phase} {crossed : ℕ → List Key} (g : Planning nodes table commits call phase crossed) where
   -- a call makes its commit, and is done
   pub plans_committed : (c : Commit) (Safe : Key → Type 0) → IsChanged (tree_now commits) (tree_now (commits ++ c ∷ [])) Safe
@@ -88,4 +95,10 @@ module _ {nodes : ℕ} {table : Placement} {commits : List Commit} {call : ℕ �
   pub plans_called : (l : ℕ) (c : CallRec) (p : Phase) → IsBare p → Planning nodes table commits (put call l c) (put phase l p) crossed
   plans_called l c p bare = record {
     planned = λ a n x. put_both (λ a d q. q ≡ Plans n x → (n < nodes) × IsPlanned table (tree_now commits) n d (crossed a) x) call phase l c p (λ e. absurd (subst IsBare e bare)) (λ a _. g.planned a n x) a;
+  }
+
+  -- the table changes for names that are not planned
+  pub plans_retabled : (table' : Placement) → ((l n : ℕ) (x : BatchCall) → phase l ≡ Plans n x → x.denied ≡ false → owner table' x.last ≡ owner table x.last) → Planning nodes table' commits call phase crossed
+  plans_retabled table' same = record {
+    planned = λ l n x e. let z = g.planned l n x e in (z.0, weaker (row_names (call l).op) _ _ (retabled table table' (tree_now commits) n (call l) (crossed l) x x.denied (same l n x e)) z.1);
   }

@@ -26,6 +26,7 @@ IsHeard phase p reply = (phase ≡ Idle) ⊎ (phase ≡ Tells (Replies p reply))
 
 abbrev pub IsResponse : (ℕ → ℕ) → (ℕ → Phase) → ℕ → ℕ → Message → Type 0
 IsResponse seq phase l p (message.Reply id reply) = (id.client ≡ l) × ((id.seq < seq l) ⊎ ((id.seq ≡ seq l) × IsHeard (phase l) p reply))
+IsResponse seq phase l p (message.Stale id old new changes) = id.client ≡ l
 IsResponse seq phase l p other = ⊥
 
 abbrev pub Responses : List Post → (ℕ → ℕ) → (ℕ → Phase) → Type 0
@@ -39,6 +40,7 @@ pub record Records (posts : List Post) (taken : ℕ → Marks) (seq : ℕ → �
 abbrev pub FineRecords : (ℕ → Marks) → (ℕ → ℕ) → (ℕ → CallRec) → (ℕ → Phase) → Actor → ℕ → Message → Type 0
 FineRecords taken seq call phase to p (message.Call c) = (n : ℕ) × (to ≡ Node n) × IsRequest taken call phase n c
 FineRecords taken seq call phase to p (message.Reply id reply) = (l : ℕ) × (to ≡ Client l) × IsResponse seq phase l p (message.Reply id reply)
+FineRecords taken seq call phase to p (message.Stale id old new changes) = (l : ℕ) × (to ≡ Client l) × (id.client ≡ l)
 FineRecords taken seq call phase to p other = (n : ℕ) × (to ≡ Node n)
 
 module _ (taken : ℕ → Marks) (seq : ℕ → ℕ) (call : ℕ → CallRec) (phase : ℕ → Phase) where
@@ -58,6 +60,10 @@ module _ (taken : ℕ → Marks) (seq : ℕ → ℕ) (call : ℕ → CallRec) (p
     where
       same_lane : (a b : ℕ) → Client a ≡ Client b → a ≡ b
       same_lane a b e = cc
+  fine_response l p (message.Stale id old new changes) fine = fine.2 ∙ sym (same_client l fine.0 fine.1)
+    where
+      same_client : (a b : ℕ) → Client a ≡ Client b → a ≡ b
+      same_client a b e = cc
   fine_response l p other fine = let e = fine.1 in absurd (cc)
 
 -- the lane has a later call, or another phase
@@ -65,6 +71,7 @@ response_kept : (seq seq' : ℕ → ℕ) (phase phase' : ℕ → Phase) (l p : �
     → ((s : ℕ) (reply : Reply) → (s < seq l) ⊎ ((s ≡ seq l) × IsHeard (phase l) p reply) → (s < seq' l) ⊎ ((s ≡ seq' l) × IsHeard (phase' l) p reply))
     → IsResponse seq phase l p m → IsResponse seq' phase' l p m
 response_kept seq seq' phase phase' l p (message.Reply id reply) f r = (r.0, f id.seq reply r.1)
+response_kept seq seq' phase phase' l p (message.Stale id old new changes) f r = r
 response_kept seq seq' phase phase' l p other f r = absurd r
 
 -- once the call of this mark was taken at a node, no record of another one is newer there that was not so before
@@ -111,6 +118,7 @@ module _ {posts : List Post} {taken : ℕ → Marks} {seq : ℕ → ℕ} {call :
 
     response_done : (a p : ℕ) (m : Message) → IsResponse seq phase a p m → IsResponse seq (put phase l (Tells (Replies k reply))) a p m
     response_done a p (message.Reply id r) h = (h.0, ⊎_elim (λ y. inl y) (λ y. inr (y.0, heard_done a p r y.1)) h.1)
+    response_done a p (message.Stale id old new changes) h = h
     response_done a p other h = absurd h
 
     -- a call that was taken is done
@@ -126,6 +134,7 @@ module _ {posts : List Post} {taken : ℕ → Marks} {seq : ℕ → ℕ} {call :
   response_moved : (phase' : ℕ → Phase) → ((l : ℕ) → Goes (phase l) (phase' l)) → (l p : ℕ) (m : Message) → IsResponse seq phase l p m → IsResponse seq phase' l p m
   response_moved phase' goes l p (message.Reply id reply) x =
       (x.0, ⊎_elim (λ h. inl h) (λ h. inr (h.0, ⊎_elim (λ idle. inl ((goes l).still idle)) (λ done. inr ((goes l).done (Replies p reply) done)) h.1)) x.1)
+  response_moved phase' goes l p (message.Stale id old new changes) x = x
   response_moved phase' goes l p other x = absurd x
 
   -- calls move, none that is on its way to an actor

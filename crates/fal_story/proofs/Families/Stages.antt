@@ -29,7 +29,7 @@ use Rattle.fal_story.specs.World.{put}
 
 -- ---- calls for which operations were started
 
-starts_started : (starts : List (ℕ × ℕ)) (operation : ℕ) (seq : ℕ → ℕ) (phase : ℕ → Phase) (l : ℕ) → (IsPast (phase l) → ⊥) → 0 < seq l → Starts starts operation Rests seq phase
+pub starts_started : (starts : List (ℕ × ℕ)) (operation : ℕ) (seq : ℕ → ℕ) (phase : ℕ → Phase) (l : ℕ) → (IsPast (phase l) → ⊥) → 0 < seq l → Starts starts operation Rests seq phase
     → Starts (starts ++ (l, seq l) ∷ []) (operation + 1) (Walks l) seq phase
 starts_started starts operation seq phase l waits some x =
     let new = λ (i : ℕ) (at : slice_get starts i ≡ Some (l, seq l)). ⊎_elim {C = ⊥} (λ e. absurd (cc)) (λ past. waits past) (x.last i l at) in
@@ -53,7 +53,7 @@ same_walk : (a b : ℕ) → Walks a ≡ Walks b → a ≡ b
 same_walk a b e = cc
 
 -- the call that walks goes on to a place where the operation has it, or is done
-starts_walked : (starts : List (ℕ × ℕ)) (operation : ℕ) (work : Work) (seq : ℕ → ℕ) (phase : ℕ → Phase) (l : ℕ) (p : Phase) → IsPast p → Starts starts operation (Walks l) seq phase → Starts starts operation work seq (put phase l p)
+pub starts_walked : (starts : List (ℕ × ℕ)) (operation : ℕ) (work : Work) (seq : ℕ → ℕ) (phase : ℕ → Phase) (l : ℕ) (p : Phase) → IsPast p → Starts starts operation (Walks l) seq phase → Starts starts operation work seq (put phase l p)
 starts_walked starts operation work seq phase l p is x = record {
   count = x.count;
   apart = x.apart;
@@ -65,13 +65,13 @@ starts_walked starts operation work seq phase l p is x = record {
 }
 
 -- the stage changes, and no call walks
-starts_on : (starts : List (ℕ × ℕ)) (operation : ℕ) (work work' : Work) (seq : ℕ → ℕ) (phase : ℕ → Phase) → ((a : ℕ) → work ≡ Walks a → ⊥) → Starts starts operation work seq phase → Starts starts operation work' seq phase
+pub starts_on : (starts : List (ℕ × ℕ)) (operation : ℕ) (work work' : Work) (seq : ℕ → ℕ) (phase : ℕ → Phase) → ((a : ℕ) → work ≡ Walks a → ⊥) → Starts starts operation work seq phase → Starts starts operation work' seq phase
 starts_on starts operation work work' seq phase none x = record { count = x.count; apart = x.apart; sent = x.sent; last = λ i a at. inr (⊎_elim (λ e. absurd (none a e)) (λ past. past) (x.last i a at)) }
 
 -- ---- nodes that were not heard
 
 -- another node stays among them
-still_missing : (n m : ℕ) (missing : List ℕ) → m ≢ n → IsMissing m missing → IsMissing m (without_node n missing)
+pub still_missing : (n m : ℕ) (missing : List ℕ) → m ≢ n → IsMissing m missing → IsMissing m (without_node n missing)
 still_missing n m [] apart is = is
 still_missing n m (k ∷ missing) apart is = ⊎_elim
     (λ x. ap (λ b. list_any (λ z. z == m) (if b then without_node n missing else k ∷ without_node n missing)) x.0
@@ -81,7 +81,7 @@ still_missing n m (k ∷ missing) apart is = ⊎_elim
     (tells k n)
 
 -- no more are missing than were, and the node itself is not
-was_missing : (n m : ℕ) (missing : List ℕ) → IsMissing m (without_node n missing) → IsMissing m missing
+pub was_missing : (n m : ℕ) (missing : List ℕ) → IsMissing m (without_node n missing) → IsMissing m missing
 was_missing n m [] is = is
 was_missing n m (k ∷ missing) is =
     elim (k == n) as (λ b. list_any (λ z. z == m) (if b then without_node n missing else k ∷ without_node n missing) ≡ true → ((k == m) || list_any (λ z. z == m) missing) ≡ true) [
@@ -93,7 +93,7 @@ was_missing n m (k ∷ missing) is =
     second true b is = refl
     second false b is = is
 
-not_missing : (n : ℕ) (missing : List ℕ) → IsMissing n (without_node n missing) → ⊥
+pub not_missing : (n : ℕ) (missing : List ℕ) → IsMissing n (without_node n missing) → ⊥
 not_missing n [] is = absurd (cc)
 not_missing n (k ∷ missing) is = ⊎_elim
     (λ x. not_missing n missing (sym (ap (λ b. list_any (λ z. z == n) (if b then without_node n missing else k ∷ without_node n missing)) x.0) ∙ is))
@@ -143,7 +143,7 @@ told_back (u ∷ rows) more key none =
 
 module _ {nodes : ℕ} {table : Placement} {shut : ℕ → Option Shut} {queued : ℕ → Option Message} {last : ℕ → ℕ} {due : ℕ → List Update} {operation : ℕ} {work : Work} {starts : List (ℕ × ℕ)} {own : List Asking} {posts : List Post}
     {commits : List Commit} {seq : ℕ → ℕ} {call : ℕ → CallRec} {phase : ℕ → Phase} (g : Operation nodes table shut queued last due operation work starts own posts commits seq call phase) where
-  at : (w : Work) → work ≡ w → Operation nodes table shut queued last due operation w starts own posts commits seq call phase
+  pub at : (w : Work) → work ≡ w → Operation nodes table shut queued last due operation w starts own posts commits seq call phase
   at w same = subst (λ z. Operation nodes table shut queued last due operation z starts own posts commits seq call phase) same g
 
   -- an operation is started for a call that waits

@@ -1,20 +1,15 @@
 -- The laws of legal runs.
-use Rattle.std.proofs.Common.{◌≡◌, ℕ, List, Some, None, refl, subst}
-use Rattle.std.specs.Prelude.{IsSome, IsTrue}
-use Rattle.fal_base.specs.declared.call.Call.{Call}
+use Rattle.std.proofs.Common.{◌≡◌, List, Some, None, refl, subst}
+use Rattle.std.specs.Prelude.{IsSome}
 use Rattle.fal_base.specs.declared.call.Config.{Config}
 use Rattle.fal_base.specs.declared.event.Event.{Event}
-use Rattle.fal_base.specs.declared.op.Op.TheVariants as op
-use Rattle.fal_base.specs.declared.rule.Rule.{Rule}
 use Rattle.fal_base.specs.Commits.{AreLegal}
 use Rattle.fal_base.specs.EachOnce.{IsEachOnce}
 use Rattle.fal_base.specs.Linear.{IsLinear}
 use Rattle.fal_base.specs.Listing.{AreListings}
 use Rattle.fal_base.specs.Places.{AreOlder, ArePlaced}
-use Rattle.fal_story.proofs.Events.ClientEvent.{call_is}
 use Rattle.fal_story.proofs.Events.LegalRuns.{IsKept, legal_kept}
 use Rattle.fal_story.proofs.Trees.Unlisted.{none_listed}
-use Rattle.fal_story.specs.Clusters.{is_served}
 use Rattle.fal_story.specs.Run.{IsLegal, run, transcript, entries_at}
 use Rattle.fal_story.specs.World.{World}
 
@@ -23,7 +18,7 @@ linear_at config w k =
     let g = k.shows.good in
     record {
       legal = subst AreLegal g.script.joined.same g.script.commits.legal;
-      answers = λ j l s p reply call is named place names. (g.script.answers j l s p reply is).2 call named;
+      answers = λ j l s p reply call is named place names. (g.script.answers j l s p reply is).2 call named place;
     }
 
 -- what holds of the transcript of a legal run, where it holds of the entries of each kept world
@@ -44,19 +39,12 @@ legal_linear config events = of_legal config events (IsLinear config) (linear_at
 
 -- no call is answered with names
 pub legal_listings : (config : Config) (events : List Event) → IsLegal config events → AreListings config (transcript config events)
-legal_listings config events legal = of_legal config events (AreListings config) (λ w k. none_listed config w.entries (λ l. (w.clients l).seq) k.ghost.phase legal.cluster k.shows.good.script.answers) legal
+legal_listings config events legal = of_legal config events (AreListings config) (λ w k. none_listed config w.entries (λ l. (w.clients l).seq) k.ghost.phase legal.cluster k.shows.good.script.answers k.shows.good.script.placements.placed) legal
 
--- nobody is told that it is stale
+-- a client is told that it is stale only where it is, and only of changes that were made
 pub legal_older : (config : Config) (events : List Event) → IsLegal config events → AreOlder (transcript config events)
-legal_older config events = of_legal config events AreOlder (λ w k j lane seq old new is. absurd (k.shows.good.script.once.unstale j lane seq old new is))
+legal_older config events = of_legal config events AreOlder (λ w k. k.shows.good.script.placements.older)
 
--- no placement is changed, and no call is served that asks for one
+-- changes of placement count from 1, each found room, and each call that asks for one is answered by those before
 pub legal_places : (config : Config) (events : List Event) → IsLegal config events → ArePlaced config (transcript config events)
-legal_places config events legal = of_legal config events (ArePlaced config) (λ w k. record {
-  versions = λ j lane seq version is. absurd (k.shows.good.script.once.unplaced j lane seq version is);
-  room = λ j lane seq version call name rule is named places. absurd (k.shows.good.script.once.unplaced j lane seq version is);
-  answers = λ j lane seq point reply call name rule is named places. absurd (not_served call name rule places (call_is config lane seq call legal.cluster named).served);
-}) legal
-  where
-    not_served : (call : Call) (name : List ℕ) (rule : Rule) → call.op ≡ op.Place name rule → IsTrue (is_served call.op) → ⊥
-    not_served call name rule places served = let none : IsTrue (is_served (op.Place name rule)) = subst (λ o. IsTrue (is_served o)) places served in absurd (cc)
+legal_places config events = of_legal config events (ArePlaced config) (λ w k. k.shows.good.script.placements.placed)

@@ -33,6 +33,7 @@ use Rattle.fal_wire.specs.Messages.{Fits, reading}
 use Rattle.fal_wire.specs.Numbers.{lane_field, ordinal_field, cred_field, id_field}
 use Rattle.fal_wire.specs.Ops.{op_field, call_field}
 use Rattle.fal_wire.proofs.ReadingLaws.{spelled_reads}
+use Rattle.fal_story.proofs.Events.FirstTable.{none_stale}
 use Rattle.fal_story.proofs.Events.Shows.{Ghost, Shows, posts_of, post_of}
 use Rattle.fal_story.proofs.Families.Records.{IsResponse}
 use Rattle.fal_story.proofs.Lists.Each.{Each}
@@ -44,7 +45,7 @@ use Rattle.fal_story.proofs.Ranges.MessageRanges.{call_fits}
 use Rattle.fal_story.proofs.Ranges.NodeRanges.{LetterFits, letters_fit}
 use Rattle.fal_story.specs.Clusters.{IsCluster, IsCall, is_lane}
 use Rattle.fal_story.specs.World.{World}
-use Rattle.fal_story.proofs.View.{seat}
+use Rattle.fal_story.proofs.View.{seat, IsPosted}
 
 -- ---- the calls of a cluster
 
@@ -207,9 +208,19 @@ read_keeps : (c : ClientState) (e : Envelope) (m : Message) → reading e.bytes 
 unfolding read_step
 read_keeps c e m read a is = subst (λ (r : Result Message WireFault). KeepsRanges (read_step c e.point r)) (sym read) (message_keeps c e.point m is a)
 
-answer_of : (seq : ℕ → ℕ) (phase : ℕ → Phase) (l p : ℕ) (m : Message) → IsResponse seq phase l p m → IsAnswer m
-answer_of seq phase l p (message.Reply id reply) h = tt
-answer_of seq phase l p other h = absurd h
+-- a client is told of no other table
+abbrev IsUntold : Message → Type 0
+IsUntold (message.Stale id old new changes) = ⊥
+IsUntold other = Unit {0}
+
+untold : (config : Config) (w : World) (h : Ghost) (k p l : ℕ) (m : Message) → Shows config w h → IsPosted (posts_of w.envelopes) k (Client l) p m → IsUntold m
+untold config w h k p l (message.Stale id old new changes) s at = none_stale config w h s k p l id old new changes at
+untold config w h k p l other s at = tt
+
+answer_of : (seq : ℕ → ℕ) (phase : ℕ → Phase) (l p : ℕ) (m : Message) → IsUntold m → IsResponse seq phase l p m → IsAnswer m
+answer_of seq phase l p (message.Reply id reply) off h = tt
+answer_of seq phase l p (message.Stale id old new changes) off h = absurd off
+answer_of seq phase l p other off h = absurd h
 
 -- to whom it is
 lane_is : (lane : ℕ) (to : Actor) → is_lanes lane to ≡ true → to ≡ Client lane
@@ -228,7 +239,8 @@ answer_came : (config : Config) (w : World) (l number : ℕ) (h : Ghost) (e : En
     → IsAnswer m
 answer_came config w l number h e m shows at read to =
     let post_is : post_of e ≡ record { to = Client l; point = e.point; message = Some m } = λ i. record { to = seat (to i); point = e.point; message = result_ok (read i) } in
-    answer_of (λ k. (w.clients k).seq) h.phase l e.point m (shows.good.records.responses number l e.point m (posted_at w.envelopes number e at ∙ ap Some post_is))
+    let posted = posted_at w.envelopes number e at ∙ ap Some post_is in
+    answer_of (λ k. (w.clients k).seq) h.phase l e.point m (untold config w h number e.point l m shows posted) (shows.good.records.responses number l e.point m posted)
 
 pub get_keeps : (config : Config) (w : World) (l number : ℕ) (h : Ghost) (e : Envelope) (move : ClientWork) → Shows config w h → IsClient (w.clients l) → slice_get w.envelopes number ≡ Some e → IsRecord e
     → client_step (w.clients l) (Get e) ≡ Some move → KeepsRanges move

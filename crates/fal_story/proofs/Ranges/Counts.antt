@@ -22,8 +22,7 @@ use Rattle.fal_story.proofs.Families.Operation.{Stands}
 use Rattle.fal_story.proofs.Lists.Each.{Each, each_weaker, each_both, each_join}
 use Rattle.fal_story.proofs.Lists.Members.{IsIn, at_in, each_by, in_front}
 use Rattle.fal_story.proofs.Lists.Grown.{tells}
-use Rattle.fal_story.proofs.Trees.Standing.{table_of}
-use Rattle.fal_story.proofs.View.{Work, Rests, Walks, Locks, Counts, Ends}
+use Rattle.fal_story.proofs.View.{Work, Rests, Walks, Locks, Counts, Ends, Blocks, Lands}
 use Rattle.fal_story.specs.Clusters.{IsCluster, is_lane}
 use Rattle.fal_story.specs.World.{World}
 
@@ -221,12 +220,14 @@ stands_last table operation (Walks lane) n shut queued last due h = let below = 
 stands_last table operation (Locks lane keys walks missing rows) n shut queued last due h =
     ⊎_elim (λ x. ⊎_elim (λ y. let below = y.2 in omega arith) (λ y. let same = y.2 in omega arith) x.1) (λ x. let same = x.2 in omega arith) h.1
 stands_last table operation (Counts lane keys walks missing rows dir updates sum) n shut queued last due h = let same = h.1.2 in omega arith
+stands_last table operation (Blocks lane name rule missing came) n shut queued last due h = h.1
+stands_last table operation (Lands name rule old missing) n shut queued last due h = h.1
 stands_last table operation (Ends keys updates missing) n shut queued last due h = ⊎_elim (λ x. let same = x.2.2 in omega arith) (λ x. let same = x.3 in omega arith) h
 
 pub few_taken : (config : Config) (w : World) (n : ℕ) (h : Ghost) → IsCluster config → n < config.nodes → Shows config w h → (w.nodes n).last_operation ≤ 10000
 few_taken config w n h cluster there shows =
     let few = few_operations config w h cluster shows in
-    let last : (w.nodes n).last_operation ≤ w.coord.operation = stands_last (table_of config) w.coord.operation (work_of w.coord.stage) n (w.nodes n).locks.shut (h.queued n) (w.nodes n).last_operation (h.due n) (shows.good.operation.stands n there) in
+    let last : (w.nodes n).last_operation ≤ w.coord.operation = stands_last w.coord.table w.coord.operation (work_of h.before w.coord.stage) n (w.nodes n).locks.shut (h.queued n) (w.nodes n).last_operation (h.due n) (shows.good.operation.stands n there) in
     omega arith
 
 -- ---- the lanes of a cluster

@@ -22,6 +22,7 @@ use Rattle.fal_wire.specs.Letters.{output_of}
 use Rattle.fal_node.specs.Letters.{Work}
 use Rattle.fal_node.specs.Step.{IsWithin, node_step}
 use Rattle.fal_place.specs.Placement.{route}
+use Rattle.fal_story.proofs.Events.FirstTable.{node_table, sent_there}
 use Rattle.fal_story.proofs.Events.Shows.{Ghost, Shows, WaitsAt, PlannedAt, lane_of, planned_lane, pending_calls, calls_in}
 use Rattle.fal_story.proofs.Lists.Each.{Each, each_weaker, each_join, each_front, each_back}
 use Rattle.fal_story.proofs.Lists.Grown.{put_all}
@@ -37,7 +38,6 @@ use Rattle.fal_story.proofs.Ranges.ExecRanges.{AreServed, exec_keeps}
 use Rattle.fal_story.proofs.Ranges.FateRanges.{sent_here}
 use Rattle.fal_story.proofs.Ranges.GatherRanges.{AreHere, gather_keeps}
 use Rattle.fal_story.proofs.Ranges.NodeRanges.{IsStart, KeepsRanges, LetterFits, counted_more, release_keeps, serve_keeps}
-use Rattle.fal_story.proofs.Trees.Standing.{table_of}
 use Rattle.fal_story.proofs.Ranges.ClientRanges as client_ranges
 use Rattle.fal_story.specs.Clusters.{IsCluster, is_lane, is_served}
 use Rattle.fal_story.specs.World.{World, put, posted, envelopes_of}
@@ -112,9 +112,9 @@ here_of config w n h there shows =
     each_weaker (WaitsAt h.call h.phase n) _ (w.nodes n).waiting.calls
     (λ x at names is.
     let placed = shows.placed n in
-    let to = shows.good.lanes.routed (lane_of x) n there (subst (IsFor n) (sym at.0) refl) in
-    ap (λ t. route t names) placed.table
-    ∙ sent_here (table_of config) x.call.op names n is (ap (λ (c : CallRec). addressee (table_of config) c.op) at.1 ∙ to)
+    let to = sent_there config w h shows (lane_of x) n there (subst (IsFor n) (sym at.0) refl) in
+    ap (λ t. route t names) (node_table config w h shows n)
+    ∙ sent_here w.coord.table x.call.op names n is (ap (λ (c : CallRec). addressee w.coord.table c.op) at.1 ∙ to)
     ∙ sym placed.number)
     (shows.held n).waiters
 

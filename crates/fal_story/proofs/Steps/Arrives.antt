@@ -18,7 +18,7 @@ use Rattle.fal_story.proofs.Phase.{IsCrossing}
 use Rattle.fal_story.proofs.Steps.Carried.{dropped_good, dropped_none, shut_good}
 use Rattle.fal_story.proofs.Steps.Posted.{posted_good}
 use Rattle.fal_story.proofs.Steps.Reads.{read_locked}
-use Rattle.fal_story.proofs.View.{IsPosted, post, View, Kept, Work, Rests, Walks, Locks, Counts, Ends, now}
+use Rattle.fal_story.proofs.View.{IsPosted, post, View, Kept, Work, Rests, Walks, Locks, Counts, Ends, now, Blocks, Lands}
 use Rattle.fal_story.specs.World.{put}
 use Rattle.fal_base.specs.Tree.{row_at}
 use Rattle.fal_base.specs.Maps.{value_at}
@@ -49,6 +49,8 @@ commit_at table operation n o (Locks lane locked walks missing rows) keys update
     (λ has. told (same_shut o operation keys locked (sym is ∙ has.0)).0)
     stands.1)
 commit_at table operation n o (Counts lane locked walks missing rows dir made sum) keys updates shut queued last due is told stands = absurd (told (same_shut o operation keys locked (sym is ∙ stands.1.0)).0)
+commit_at table operation n o (Blocks lane name rule left came) keys updates shut queued last due is told stands = let none = stands.0 in absurd (cc)
+commit_at table operation n o (Lands name rule old left) keys updates shut queued last due is told stands = let none = stands.0 in absurd (cc)
 commit_at table operation n o (Ends locked made missing) keys updates shut queued last due is told stands = ⊎_elim
     (λ x.
     let same = same_shut o operation keys locked (sym is ∙ x.2.0) in
@@ -77,6 +79,8 @@ count_at table operation n o dir (Locks lane locked walks missing rows) keys shu
     (λ has. told (same_shut o operation keys locked (sym is ∙ has.0)).0)
     stands.1)
 count_at table operation n o dir (Counts lane locked walks missing rows under made sum) keys shut queued last due is told stands = let same = (same_shut o operation keys locked (sym is ∙ stands.1.0)).0 in (same, (told same, stands.0))
+count_at table operation n o dir (Blocks lane name rule left came) keys shut queued last due is told stands = let none = stands.0 in absurd (cc)
+count_at table operation n o dir (Lands name rule old left) keys shut queued last due is told stands = let none = stands.0 in absurd (cc)
 count_at table operation n o dir (Ends locked made missing) keys shut queued last due is told stands = ⊎_elim {C = (o ≡ operation) × MayCount (Ends locked made missing) dir due}
     (λ x. ((same_shut o operation keys locked (sym is ∙ x.2.0)).0, tt))
     (λ x. let none = x.1 in absurd (cc))
@@ -115,13 +119,6 @@ some_counted config v l keys walks missing rows dir updates sum is some g = (sub
 
 -- ---- a node serves its Lock: it drops its entries of the keys, shuts them, and tells its rows
 
-queued_due : (table : Placement) (operation n : ℕ) (work : Work) (shut : Option Shut) (last : ℕ) (due : List Update) (item : Message) → Stands table operation work n shut (Some item) last due → due ≡ []
-queued_due table operation n Rests shut last due item stands = stands.0
-queued_due table operation n (Walks lane) shut last due item stands = stands.0
-queued_due table operation n (Locks lane locked walks missing rows) shut last due item stands = stands.0
-queued_due table operation n (Counts lane locked walks missing rows dir made sum) shut last due item stands = stands.0
-queued_due table operation n (Ends locked made missing) shut last due item stands = ⊎_elim (λ x. let none = x.2.1 in absurd (cc)) (λ x. x.0) stands
-
 pub served_lock_good : (config : Config) (v : View) (n l : ℕ) (keys : List Key) (walks : List Kept) (missing : List ℕ) (rows : List Update) (point : ℕ) → v.op.work ≡ Locks l keys walks missing rows → n < config.nodes
     → v.op.queued n ≡ Some (message.Lock v.op.operation keys) → v.fetches n ≡ [] → ((l : ℕ) (key : Key) → IsCrossing n (v.phase l) → is_among key (v.op.crossed l) ≡ true → is_among key keys ≡ true → ⊥) → Good config v
     → Good config (record v {
@@ -134,7 +131,7 @@ served_lock_good config v n l keys walks missing rows point is below item none o
     let v1 = record v { replica = put v.replica n (without_keys (v.replica n) keys) } in
     let second = shut_good config v1 n l keys walks missing rows is below item none
     (λ key among. ap (λ r. value_at r key) (put_same v.replica n (without_keys (v.replica n) keys)) ∙ dropped_none config v (v.replica n) keys key among) off first in
-    let due = queued_due v.map.table v.op.operation n v.op.work (v.op.shut n) (v.op.last n) (v.op.due n) (message.Lock v.op.operation keys) (subst (λ q. Stands v.map.table v.op.operation v.op.work n (v.op.shut n) q (v.op.last n) (v.op.due n)) item (g.operation.stands n below)) in
+    let due = (subst (λ w. Stands v.map.table v.op.operation w n (v.op.shut n) (v.op.queued n) (v.op.last n) (v.op.due n)) is (g.operation.stands n below)).0 in
     posted_good config (record v1 { op = record v.op { shut = put v.op.shut n (shut_by v.op.operation keys); queued = put v.op.queued n None } }) (Node 255) point (message.Locked v.op.operation n (rows_of v.map.table (v.rows n) n keys))
     (record {
       asking = tt;
@@ -144,5 +141,7 @@ served_lock_good config v n l keys walks missing rows point is below item none o
         λ _. subst (λ w. ToldLocked v.map.table (now v) v.op.operation w (put v.op.shut n (shut_by v.op.operation keys) n) n (rows_of v.map.table (v.rows n) n keys)) (sym is)
             (put_same v.op.shut n (shut_by v.op.operation keys), read_locked config v n keys due g),
       );
+      bars = tt;
+      knowing = tt;
     })
     second

@@ -1,5 +1,5 @@
 -- A call from its sending to its answer: it is sent, taken by an actor, handed on to the coordinator, answered.
-use Rattle.std.proofs.Common.{◌≡◌, ◌≢◌, ⊎_elim, ℕ, ◌+◌, ◌<◌, ◌≤◌, true, [], ◌∷◌, ◌++◌, length, Some, None, refl, sym, ◌∙◌, subst}
+use Rattle.std.proofs.Common.{◌≡◌, ◌≢◌, inl, ⊎_elim, ℕ, ◌+◌, ◌<◌, ◌≤◌, true, [], ◌∷◌, ◌++◌, length, Some, None, refl, sym, ◌∙◌, subst, ap}
 use Rattle.std.specs.Prelude.{IsTrue}
 use Rattle.fal_base.specs.declared.call.CallRec.{CallRec}
 use Rattle.fal_base.specs.declared.call.Config.{Config}
@@ -13,16 +13,18 @@ use Rattle.fal_base.specs.Marks.{mark_of, last_mark, with_mark, is_newer}
 use Rattle.fal_wire.specs.declared.message.Message.TheVariants as message
 use Rattle.fal_wire.specs.Ops.{op_field}
 use Rattle.fal_story.proofs.Families.Asking.{asking_called, asking_put}
+use Rattle.fal_story.proofs.Families.Barring.{bars_put}
 use Rattle.fal_story.proofs.Families.Clear.{clear_put}
-use Rattle.fal_story.proofs.Families.Lanes.{lanes_idle, lanes_sent, lanes_handed, lanes_put, positive}
+use Rattle.fal_story.proofs.Families.Knowing.{Untold, known_first, knowing_handed, knowing_put, knowing_sent}
+use Rattle.fal_story.proofs.Families.Lanes.{lanes_idle, lanes_sent, lanes_handed, lanes_put, positive, OwnsLast, routed_first, routed_passed, routed_up}
 use Rattle.fal_story.proofs.Families.OperationCalls.{operation_called, operation_moved, operation_sent}
 use Rattle.fal_story.proofs.Families.Plans.{plans_called, plans_put}
 use Rattle.fal_story.proofs.Families.Records.{records_handed, records_idle, records_sent, records_taken}
-use Rattle.fal_story.proofs.Families.Script.{script_answered, script_sent, script_handed, script_moved}
+use Rattle.fal_story.proofs.Families.Script.{script_answered, script_sent, script_handed, script_put}
 use Rattle.fal_story.proofs.Good.{Good}
 use Rattle.fal_story.proofs.Lists.Grown.{put_all, put_other}
-use Rattle.fal_story.proofs.Phase.{Phase, Idle, Asked, Waits, Plans, Runs, Tells, Replies, IsFor, IsPast, IsSteady, IsTaken, IsUnanswered, goes_put, steady_same}
-use Rattle.fal_story.proofs.View.{IsPosted, plain, View}
+use Rattle.fal_story.proofs.Phase.{Phase, Idle, Asked, Waits, Plans, Runs, Tells, Replies, IsFor, IsPast, IsSteady, IsTaken, IsUnanswered, steady_same}
+use Rattle.fal_story.proofs.View.{IsPosted, plain, View, now}
 use Rattle.fal_story.specs.Clusters.{is_served}
 use Rattle.fal_story.specs.World.{put}
 
@@ -33,8 +35,10 @@ pub record IsNext (config : Config) (v : View) (l : ℕ) (call : CallRec) : Type
   pub lane : call.id.client ≡ l
   pub number : call.id.seq ≡ v.seq l + 1
   pub served : IsTrue (is_served call.op)
+  pub hop : call.id.hop ≡ 0
+  pub version : call.version ≡ (v.map.known l).version
 
-pub asked_good : (config : Config) (v : View) (l n : ℕ) (call : CallRec) → IsNext config v l call → op_field.Fits call.op → ((m : ℕ) → m < config.nodes → n ≡ m → addressee v.map.table call.op ≡ Node m) → Good config v
+pub asked_good : (config : Config) (v : View) (l n : ℕ) (call : CallRec) → IsNext config v l call → op_field.Fits call.op → ((m : ℕ) → m < config.nodes → n ≡ m → addressee (v.map.known l) call.op ≡ Node m) → Good config v
     → Good config (record v {
       entries = v.entries ++ entry.Sent l (v.seq l + 1) ∷ [];
       seq = put v.seq l (v.seq l + 1);
@@ -47,10 +51,12 @@ asked_good config v l n call next fits to g = record {
   clear = clear_put g.clear l (Asked n) tt;
   asking = asking_called g.asking (put v.since l (length v.commits)) l call (Asked n) (λ a ne. put_other v.since l (length v.commits) a ne) tt;
   plans = plans_called g.plans l call (Asked n) tt;
-  lanes = lanes_sent g.lanes l call (Asked n) (record { no_done = λ k r e. absurd (cc); routed = to; served = next.served; fits = λ _. fits }) g.script.commits.older;
-  script = script_sent g.script l call (Asked n) next.named next.lane next.number;
+  lanes = lanes_sent g.lanes l call (Asked n) (record { no_done = λ k r e. absurd (cc); routed = λ m is. routed_first config.nodes v.map.table v.commits m call next.hop (λ below none. ap (λ t. addressee t call.op) (sym (known_first g.knowing none l)) ∙ to m below is); served = next.served; fits = λ _. fits }) g.script.commits.older;
+  script = script_sent g.script l call (Asked n) next.named next.lane next.number (λ k r e. absurd (cc));
   records = records_sent g.records l call (Asked n) next.idle;
   operation = operation_sent g.operation l call (Asked n) (λ e. let idle = next.idle in absurd (cc)) (λ e. absurd (cc));
+  bars = bars_put g.bars l (Asked n) tt;
+  knowing = knowing_sent g.knowing l call (Asked n) next.idle next.version (λ i j e. absurd (cc));
 }
 
 -- a record that is newer than the last taken of its client is that of the call under way, which now waits here
@@ -67,9 +73,11 @@ taken_good config v e n p c sent newer g =
       asking = asking_put g.asking l (Waits n None) tt;
       plans = plans_put g.plans l (Waits n None) tt;
       lanes = lanes_put g.lanes l (Waits n None) live (λ m at. subst (IsFor m) (sym was.1) at) (λ k reply e. absurd (cc));
-      script = script_moved g.script (put v.phase l (Waits n None)) (goes_put v.phase l (Waits n None) live);
+      script = script_put g.script l (Waits n None) live (λ k reply e. absurd (cc));
       records = records_taken g.records n c was.0 was.1 newer;
       operation = operation_moved g.operation (put v.phase l (Waits n None)) (steady_asked v.phase l n was.1);
+      bars = bars_put g.bars l (Waits n None) tt;
+      knowing = knowing_put g.knowing l (Waits n None) (λ e. absurd (subst IsUnanswered e live)) (subst Untold (sym was.1) tt) tt;
     }
   where
     steady_asked : (phase : ℕ → Phase) (l n : ℕ) → phase l ≡ Asked n → (a : ℕ) → IsSteady (phase a) (put phase l (Waits n None) a)
@@ -92,10 +100,32 @@ handed_good config v l n x is few g =
       clear = clear_put g.clear l (Asked 255) tt;
       asking = asking_called g.asking v.since l c (Asked 255) (λ a ne. refl) tt;
       plans = plans_called g.plans l c (Asked 255) tt;
-      lanes = lanes_handed g.lanes l c few live refl;
-      script = script_handed g.script l c (Asked 255) refl refl refl live;
+      lanes = lanes_handed g.lanes l 255 c live refl (routed_up config.nodes v.map.table v.commits n (v.call l) c (g.plans.planned l n x is).0 few refl (g.lanes.routed l n (subst (IsFor n) (sym is) refl)));
+      script = script_handed g.script l c (Asked 255) refl refl refl live (λ k r e. absurd (cc));
       records = records_handed g.records l c (Asked 255) (subst IsTaken (sym is) tt);
       operation = operation_called g.operation l c (Asked 255) (λ e. absurd (cc)) (λ e. absurd (cc)) (λ past. absurd (subst IsPast is past));
+      bars = bars_put g.bars l (Asked 255) tt;
+      knowing = knowing_handed g.knowing l c (Asked 255) refl refl (λ e. absurd (subst IsUnanswered e live)) (subst Untold (sym is) tt) tt;
+    }
+
+-- a node that does not own the last key of a call hands it on to the one that does; of a call that was not handed on before only by a rule that was set
+pub passed_good : (config : Config) (v : View) (l n m : ℕ) → v.phase l ≡ Waits n None → n < config.nodes → m < config.nodes → (OwnsLast v.map.table (now v) n (v.call l) → ⊥) → OwnsLast v.map.table (now v) m (v.call l)
+    → ((v.call l).id.hop ≡ 0 → 1 ≤ v.map.table.version) → Good config v
+    → Good config (record v { call = put v.call l (handed (v.call l)); phase = put v.phase l (Asked m) })
+passed_good config v l n m is below under other owns first g =
+    let c = handed (v.call l) in
+    let live : IsUnanswered (v.phase l) = subst IsUnanswered (sym is) tt in
+    record {
+      ground = g.ground;
+      clear = clear_put g.clear l (Asked m) tt;
+      asking = asking_called g.asking v.since l c (Asked m) (λ a ne. refl) tt;
+      plans = plans_called g.plans l c (Asked m) tt;
+      lanes = lanes_handed g.lanes l m c live refl (routed_passed config.nodes v.map.table v.commits n m (v.call l) c below under refl other first owns (g.lanes.routed l n (subst (IsFor n) (sym is) refl)));
+      script = script_handed g.script l c (Asked m) refl refl refl live (λ k r e. absurd (cc));
+      records = records_handed g.records l c (Asked m) (subst IsTaken (sym is) tt);
+      operation = operation_called g.operation l c (Asked m) (λ e. absurd (cc)) (λ e. absurd (cc)) (λ past. absurd (subst IsPast is past));
+      bars = bars_put g.bars l (Asked m) tt;
+      knowing = knowing_handed g.knowing l c (Asked m) refl refl (λ e. absurd (subst IsUnanswered e live)) (subst Untold (sym is) tt) tt;
     }
 
 -- the lane's call is answered
@@ -110,9 +140,11 @@ heard_good config v l k reply done g =
       asking = asking_put g.asking l Idle tt;
       plans = plans_put g.plans l Idle tt;
       lanes = lanes_idle g.lanes l;
-      script = script_answered g.script l k reply above (λ i p r less h. g.script.once.unanswered l i p r busy h) (g.lanes.right l k reply done);
+      script = script_answered g.script l k reply above (λ i p r less h. g.script.once.unanswered l i p r busy h) (g.lanes.right l k reply done) (inl done);
       records = records_idle g.records l k reply done;
       operation = operation_moved g.operation (put v.phase l Idle) (steady_idle v.phase l k reply done);
+      bars = bars_put g.bars l Idle tt;
+      knowing = knowing_put g.knowing l Idle (λ _. refl) (subst Untold (sym done) tt) tt;
     }
   where
     steady_idle : (phase : ℕ → Phase) (l k : ℕ) (reply : Reply) → phase l ≡ Tells (Replies k reply) → (a : ℕ) → IsSteady (phase a) (put phase l Idle a)

@@ -13,6 +13,7 @@ use Rattle.fal_base.specs.Change as tree
 use Rattle.fal_base.specs.Change.{makes}
 use Rattle.fal_base.specs.Commits.{Commit, tree_at}
 use Rattle.fal_base.specs.Maps.{value_at}
+use Rattle.fal_base.specs.Transcript.{is_place}
 use Rattle.fal_base.specs.Tree.{row_at}
 use Rattle.fal_base.specs.Updates.{laid, keys_of}
 use Rattle.fal_base.proofs.Updates.{laid_off}
@@ -20,14 +21,16 @@ use Rattle.fal_coord.specs.Nodes.{numbers_below}
 use Rattle.fal_dentry.specs.Walk.{is_among}
 use Rattle.fal_duty.specs.Duties.{owned}
 use Rattle.fal_story.proofs.Families.Asking.{IsCrossed, asking_committed, asking_put}
+use Rattle.fal_story.proofs.Families.Barring.{bars_locks, bars_put, bars_stage, ready_locking}
 use Rattle.fal_story.proofs.Families.Clear.{IsShut, clear_put}
 use Rattle.fal_story.proofs.Families.Ground.{ground_decided}
+use Rattle.fal_story.proofs.Families.Knowing.{Untold, knowing_put}
 use Rattle.fal_story.proofs.Families.Lanes.{IsRight, lanes_committed, lanes_put, positive}
 use Rattle.fal_story.proofs.Families.Operation.{HasShut}
 use Rattle.fal_story.proofs.Families.OperationEnds.{IsReady, ready_of, ready_quiet, ready_shut, operation_decided, operation_ended}
 use Rattle.fal_story.proofs.Families.Plans.{plans_committed, plans_put}
 use Rattle.fal_story.proofs.Families.Records.{records_done, records_moved}
-use Rattle.fal_story.proofs.Families.Script.{Commits, IsDrawn, script_committed, script_moved}
+use Rattle.fal_story.proofs.Families.Script.{Commits, IsDrawn, makes_tree, script_committed, script_put}
 use Rattle.fal_story.proofs.Good.{Good}
 use Rattle.fal_story.proofs.Lists.Grown.{slice_get_snoc, slice_get_end, tells}
 use Rattle.fal_story.proofs.Phase.{Idle, Runs, Tells, Replies, IsCrossing, IsUnanswered, IsTaken, goes_put, stays_put, taken_live}
@@ -150,6 +153,7 @@ module _ (config : Config) (v : View) (l : ℕ) (keys : List Key) (updates : Lis
       let same : tree_at grown (length v.commits) ≡ now v = tree_at_front v.commits (c ∷ []) (length v.commits) (omega arith) in
       let more = longer v.commits c in
       record {
+        tree = makes_tree (now v) (v.call l).cred (v.call l).op is.makes;
         from = g.script.calls.past l;
         to = omega arith;
         served = sym is.fine ∙ ap (λ t. answer t (v.call l).cred (v.call l).op) (sym same);
@@ -175,19 +179,22 @@ module _ (config : Config) (v : View) (l : ℕ) (keys : List Key) (updates : Lis
     script = script_committed g.script c l (length v.commits) Fine refl refl refl refl above live v.drawn commits_now;
     records = records_done g.records l (length v.commits) Fine taken;
     operation = operation_decided g.operation l keys updates c (length v.commits) Fine is.stage is.within;
+    bars = bars_put (bars_locks g.bars v.rows (λ n. owned v.map.table n updates) v.op.queued v.op.last (Ends keys updates (numbers_below config.nodes)) (v.commits ++ c ∷ []) (ready_locking v.op.work l keys is.stage) tt (λ n. omega arith)) l (Tells (Replies (length v.commits) Fine)) tt;
+    knowing = knowing_put g.knowing l (Tells (Replies (length v.commits) Fine)) (λ e. absurd (subst IsUnanswered e live)) (subst Untold (sym runs) tt) tt;
   }
 
 -- the operation changes nothing: the answer is the one that it has now
-pub ended_good : (config : Config) (v : View) (l : ℕ) (keys : List Key) (reply : Reply) → IsReady v.op.work l keys → makes (now v) (v.call l).cred (v.call l).op ≡ false → reply ≡ answer (now v) (v.call l).cred (v.call l).op → Good config v
+pub ended_good : (config : Config) (v : View) (l : ℕ) (keys : List Key) (reply : Reply) → IsReady v.op.work l keys → is_place (v.call l).op ≡ false → makes (now v) (v.call l).cred (v.call l).op ≡ false → reply ≡ answer (now v) (v.call l).cred (v.call l).op → Good config v
     → Good config (record v {
       phase = put v.phase l (Tells (Replies (length v.commits) reply));
       op = record v.op { work = Ends keys [] (numbers_below config.nodes) };
     })
-ended_good config v l keys reply ready unmade answered g =
+ended_good config v l keys reply ready tree unmade answered g =
     let runs : v.phase l ≡ Runs = g.operation.running l (ready_of v.op.work l keys ready) in
     let live : IsUnanswered (v.phase l) = subst IsUnanswered (sym runs) tt in
     let p = Tells (Replies (length v.commits) reply) in
     let right : IsRight v.commits (v.seq l) (v.call l) (v.since l) l (length v.commits) reply = record {
+      tree = tree;
       from = g.script.calls.past l;
       to = omega arith;
       served = answered;
@@ -199,11 +206,13 @@ ended_good config v l keys reply ready unmade answered g =
       clear = clear_put g.clear l p tt;
       asking = asking_put g.asking l p tt;
       plans = plans_put g.plans l p tt;
-      lanes = lanes_put g.lanes l p live (λ m none. absurd none) (λ k r e.
+      lanes = lanes_put g.lanes l p live (λ m none. absurd none) (λ k r e _.
           let point : length v.commits ≡ k = cc in
           let told : reply ≡ r = cc in
           subst (IsRight v.commits (v.seq l) (v.call l) (v.since l) l k) told (subst (λ z. IsRight v.commits (v.seq l) (v.call l) (v.since l) l z reply) point right));
-      script = script_moved g.script (put v.phase l p) (goes_put v.phase l p live);
+      script = script_put g.script l p live (λ _ _ _. tree);
       records = records_moved g.records (put v.phase l p) (goes_put v.phase l p live) (stays_put v.phase l p (subst IsTaken (sym runs) tt));
       operation = operation_ended g.operation l keys (length v.commits) reply ready;
+      bars = bars_put (bars_stage g.bars (Ends keys [] (numbers_below config.nodes)) (ready_locking v.op.work l keys ready) tt) l p tt;
+      knowing = knowing_put g.knowing l p (λ e. absurd (subst IsUnanswered e live)) (subst Untold (sym runs) tt) tt;
     }

@@ -9,6 +9,7 @@ use Rattle.fal_base.specs.declared.call.Cred.{Cred}
 use Rattle.fal_base.specs.declared.inode.Inode.{Inode}
 use Rattle.fal_base.specs.declared.key.Key.{Key}
 use Rattle.fal_base.specs.declared.op.Op.{Op}
+use Rattle.fal_base.specs.declared.op.Op.TheVariants as op
 use Rattle.fal_base.specs.declared.reply.Errno.TheVariants.{Eacces}
 use Rattle.fal_base.specs.declared.reply.Reply.{Reply}
 use Rattle.fal_base.specs.declared.reply.Reply.TheVariants.{Fail}
@@ -16,6 +17,7 @@ use Rattle.fal_base.specs.Answer.{answer}
 use Rattle.fal_base.specs.Change as tree
 use Rattle.fal_base.specs.Change.{makes}
 use Rattle.fal_base.specs.Commits.{Commit, tree_at}
+use Rattle.fal_base.specs.Transcript.{is_place}
 use Rattle.fal_base.specs.Walk.{Ready, walk}
 use Rattle.fal_base.specs.Tree.{Tree, row_at}
 use Rattle.fal_base.specs.Updates.{laid_at, keys_of}
@@ -35,8 +37,11 @@ use Rattle.fal_run.specs.declared.call.BatchCall.{BatchCall}
 use Rattle.fal_run.specs.Calls.{is_making, number_after, noted_number, drawn_by, draws}
 use Rattle.fal_run.specs.Rows.{rows_after}
 use Rattle.fal_story.proofs.Families.Asking.{IsCrossed, asking_committed}
+use Rattle.fal_story.proofs.Families.Barring.{bars_executed, bars_put}
+use Rattle.fal_story.proofs.Families.Bars.{Bars}
 use Rattle.fal_story.proofs.Families.Clear.{IsShut, clear_put}
 use Rattle.fal_story.proofs.Families.Ground.{Ground, ground_executed}
+use Rattle.fal_story.proofs.Families.Knowing.{Untold, knowing_put}
 use Rattle.fal_story.proofs.Families.Lanes.{IsRight, lanes_committed, positive}
 use Rattle.fal_story.proofs.Families.Operation.{HasDirs, Stands}
 use Rattle.fal_story.proofs.Families.OperationRows.{IsUnder, IsUntouched, operation_executed}
@@ -54,7 +59,7 @@ use Rattle.fal_story.proofs.Trees.Commits.{longer, IsNewNumber, tree_at_front, t
 use Rattle.fal_story.proofs.Trees.Numbers.{numbers_differ, numbers_some}
 use Rattle.fal_story.proofs.Trees.Standing.{tree_now}
 use Rattle.fal_story.proofs.Trees.Among.{all_among}
-use Rattle.fal_story.proofs.View.{View, Work, Rests, Walks, Locks, Counts, Ends, now}
+use Rattle.fal_story.proofs.View.{View, Work, Rests, Walks, Locks, Counts, Ends, now, Blocks, Lands}
 use Rattle.fal_story.specs.World.{put}
 
 -- what comes of a planned call, by the node's rows
@@ -88,6 +93,14 @@ planned_here config v l n x denied is as_denied g =
     subst (λ b. (names : List (List ℕ)) × ((row_names (v.call l).op ≡ Some names) × IsPlannedAs v.map.table (now v) n (v.call l) (v.op.crossed l) x b names)) as_denied
     (some_of (row_names (v.call l).op) _ (g.plans.planned l n x is).1)
 
+row_tree : (o : Op) (names : List (List ℕ)) → row_names o ≡ Some names → is_place o ≡ false
+row_tree (op.Place name rule) names is = absurd (cc)
+row_tree other names is = refl
+
+-- one row decides it, so it is a call about the tree
+planned_tree : (config : Config) (v : View) (l n : ℕ) (x : BatchCall) → v.phase l ≡ Plans n x → Good config v → is_place (v.call l).op ≡ false
+planned_tree config v l n x is g = let one = some_of (row_names (v.call l).op) _ (g.plans.planned l n x is).1 in row_tree (v.call l).op one.0 one.1.0
+
 under_way : (v : View) (l n : ℕ) (x : BatchCall) → v.phase l ≡ Plans n x → v.phase l ≢ Idle
 under_way v l n x is idle = cc
 
@@ -98,11 +111,11 @@ own_here config v l n x is ready g =
     (plan.2, g.clear.ways l n x.last (subst (IsCrossing n) (sym is) refl) plan.3)
 
 off_due : (config : Config) (v : View) (l n : ℕ) (x : BatchCall) → v.phase l ≡ Plans n x → x.denied ≡ false → Good config v → is_among x.last (keys_of (v.op.due n)) ≡ false
-off_due config v l n x is ready g = none_due config v n x.last (g.plans.planned l n x is).0 (own_here config v l n x is ready g).1 g
+off_due config v l n x is ready g = none_due config v n x.last (g.plans.planned l n x is).0 (own_here config v l n x is ready g).1 (g.bars.clear l n x is ready) g
 
 -- its row is the tree's
 row_here : (config : Config) (v : View) (l n : ℕ) (x : BatchCall) → v.phase l ≡ Plans n x → x.denied ≡ false → Good config v → row_at (v.rows n) x.last ≡ row_at (now v) x.last
-row_here config v l n x is ready g = let here = own_here config v l n x is ready g in read_row config v n x.last (g.plans.planned l n x is).0 here.0 here.1 g
+row_here config v l n x is ready g = let here = own_here config v l n x is ready g in read_row config v n x.last (g.plans.planned l n x is).0 here.0 here.1 (g.bars.clear l n x is ready) g
 
 -- what came of it is what the tree says of the call
 finished_here : (config : Config) (v : View) (l n : ℕ) (x : BatchCall) (reply : Reply) (ch : Change) → v.phase l ≡ Plans n x → x.denied ≡ false → IsOutcome v l n x reply ch → Good config v
@@ -118,6 +131,7 @@ finished_here config v l n x reply ch is ready outcome g =
 unmade_right : (config : Config) (v : View) (l n : ℕ) (x : BatchCall) (reply : Reply) → v.phase l ≡ Plans n x → reply ≡ answer (now v) (v.call l).cred (v.call l).op → makes (now v) (v.call l).cred (v.call l).op ≡ false
     → Good config v → IsRight v.commits (v.seq l) (v.call l) (v.since l) l (length v.commits) reply
 unmade_right config v l n x reply is answered unmade g = record {
+  tree = planned_tree config v l n x is g;
   from = g.script.calls.past l;
   to = omega arith;
   served = answered;
@@ -246,6 +260,7 @@ module _ (config : Config) (v : View) (l n : ℕ) (x : BatchCall) (reply : Reply
       let done = finished_here config v l n x reply ch is ready outcome g in
       let more = longer v.commits added in
       record {
+        tree = planned_tree config v l n x is g;
         from = g.script.calls.past l;
         to = omega arith;
         served = done.answered ∙ ap (λ t. answer t call.cred call.op) (sym same);
@@ -312,6 +327,8 @@ module _ (config : Config) (v : View) (l n : ℕ) (x : BatchCall) (reply : Reply
       let dirs = subst (HasDirs (now v)) same g.operation.dirs in
       let stands = subst (λ w. Stands v.map.table v.op.operation w n (v.op.shut n) (v.op.queued n) (v.op.last n) (v.op.due n)) same (g.operation.stands n (g.plans.planned l n x is).0) in
       changed.others key (λ last. not_under dir dirs.0 (subst (λ s. IsShut s dirs.0) (sym stands.1.0) dirs.1) dirs.2 (ap (λ (k : Key). k.parent) (sym last) ∙ under))
+  under_at (Blocks lane name rule left came) same = tt
+  under_at (Lands name rule old left) same = tt
   under_at (Ends keys updates missing) same = tt
 
   under : IsUnder (now v) (tree_now grown) v.op.work
@@ -345,4 +362,7 @@ committed_good config v l n x reply ch is ready outcome changes below g =
       script = script_committed g.script c l k reply refl refl refl refl (positive g.lanes l (under_way v l n x is)) (subst IsUnanswered (sym is) tt) (put v.drawn n (v.drawn n + drawn_by (v.call l).op ch)) (commits_now config v l n x reply ch is ready outcome changes below g);
       records = records_done g.records l k reply taken;
       operation = operation_executed g.operation c l k reply (λ runs. absurd (cc)) g.ground.lives at (untouched config v l n x reply ch is ready outcome changes below g) (under config v l n x reply ch is ready outcome changes below g);
+      bars = subst (λ r. Bars config.nodes v.map.table v.map.tables v.map.barred (put v.rows n r) v.op.due v.op.queued v.op.last v.op.operation v.op.work v.posts (v.commits ++ c ∷ []) (put v.phase l (Tells (Replies k reply)))) (sym (rows_after_is (v.rows n) x.last ch changes))
+          (bars_put (bars_executed g.bars c n x.last (row_left ch) (g.plans.planned l n x is).0 own (g.bars.clear l n x is ready) (after ∙ rows_after_is (now v) x.last ch changes)) l (Tells (Replies k reply)) tt);
+      knowing = knowing_put g.knowing l (Tells (Replies k reply)) (λ e. absurd (under_way v l n x is e)) (subst Untold (sym is) tt) tt;
     }

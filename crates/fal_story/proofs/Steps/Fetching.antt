@@ -34,6 +34,8 @@ closed_good config v n fs who among quiet g = record {
   script = g.script;
   records = g.records;
   operation = operation_fetched g.operation (put v.fetches n fs 255) (own_fetches v n fs g.operation.quiet quiet);
+  bars = g.bars;
+  knowing = g.knowing;
 }
 
 pub raised_good : (config : Config) (v : View) (n count : ℕ) → v.opened n ≤ count → Good config v → Good config (record v { opened = put v.opened n count })
@@ -46,6 +48,8 @@ raised_good config v n count more g = record {
   script = g.script;
   records = g.records;
   operation = g.operation;
+  bars = g.bars;
+  knowing = g.knowing;
 }
 
 -- a fetch is pending for a key that is not shut, whose number nothing had
@@ -68,4 +72,6 @@ pended_good config v n f is g = record {
   script = g.script;
   records = g.records;
   operation = operation_fetched g.operation (put v.fetches n (v.fetches n ++ f ∷ []) 255) (own_fetches v n (v.fetches n ++ f ∷ []) g.operation.quiet is.walks);
+  bars = g.bars;
+  knowing = g.knowing;
 }

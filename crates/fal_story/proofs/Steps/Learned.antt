@@ -22,4 +22,6 @@ learned_good config v n key dentry who is off g = record {
   script = g.script;
   records = g.records;
   operation = g.operation;
+  bars = g.bars;
+  knowing = g.knowing;
 }

@@ -1,5 +1,5 @@
 -- A call with a bad path is answered as soon as it is sent.
-use Rattle.std.proofs.Common.{◌≡◌, ◌≢◌, ℕ, ◌+◌, ◌<◌, ◌&&◌, Bool, true, false, [], ◌∷◌, ◌++◌, length, Some, refl, sym, ap, ◌∙◌, subst, arith, append_assoc}
+use Rattle.std.proofs.Common.{◌≡◌, ◌≢◌, inr, ℕ, ◌+◌, ◌<◌, ◌&&◌, Bool, true, false, [], ◌∷◌, ◌++◌, length, Some, refl, sym, ap, ◌∙◌, subst, arith, append_assoc}
 use Rattle.std.specs.Prelude.{IsTrue}
 use Rattle.std.proofs.lemmas.Option.{same_Some}
 use Rattle.fal_base.specs.declared.call.CallRec.{CallRec}
@@ -15,10 +15,13 @@ use Rattle.fal_base.specs.declared.reply.Reply.TheVariants.{Fail}
 use Rattle.fal_base.specs.Answer.{answer, errno_of}
 use Rattle.fal_base.specs.Change.{changes, makes}
 use Rattle.fal_base.specs.EachOnce.{NotAnswered}
+use Rattle.fal_base.specs.Transcript.{is_place}
 use Rattle.fal_base.specs.Tree.{Tree}
 use Rattle.fal_base.specs.OpPaths.{bad_path}
 use Rattle.fal_story.proofs.Families.Asking.{asking_called, asking_put}
+use Rattle.fal_story.proofs.Families.Barring.{bars_put}
 use Rattle.fal_story.proofs.Families.Clear.{clear_put}
+use Rattle.fal_story.proofs.Families.Knowing.{Untold, knowing_put, knowing_sent}
 use Rattle.fal_story.proofs.Families.Lanes.{IsRight, lanes_idle, lanes_sent}
 use Rattle.fal_story.proofs.Families.OperationCalls.{operation_moved, operation_sent}
 use Rattle.fal_story.proofs.Families.Plans.{plans_called, plans_put}
@@ -65,11 +68,17 @@ bad_answer tree cred (op.Rename (Bad f raw) to) fault served bad =
     (ap (λ x. Fail (errno_of x)) (sym (same_Some _ _ bad)), and_false (changes tree cred (op.Rename (Bad f raw) to)))
 bad_answer tree cred other fault served bad = absurd (cc)
 
+bad_tree : (o : Op) (fault : PathFault) → bad_path o ≡ Some fault → is_place o ≡ false
+unfolding bad_path
+bad_tree (op.Place name rule) fault bad = absurd (cc)
+bad_tree other fault bad = refl
+
 bad_right : (config : Config) (v : View) (l : ℕ) (call : CallRec) (fault : PathFault) → IsTrue (is_served call.op) → bad_path call.op ≡ Some fault → Good config v
     → IsRight v.commits (v.seq l + 1) call (length v.commits) l (length v.commits) (Fail (errno_of fault))
 bad_right config v l call fault served bad g =
     let x = bad_answer (now v) call.cred call.op fault served bad in
     record {
+      tree = bad_tree call.op fault bad;
       from = omega arith;
       to = omega arith;
       served = x.0;
@@ -92,10 +101,12 @@ sent_idle config v l call next g = record {
   clear = clear_put g.clear l Idle tt;
   asking = asking_called g.asking (put v.since l (length v.commits)) l call Idle (λ a ne. put_elsewhere v.since l (length v.commits) a ne) tt;
   plans = plans_called g.plans l call Idle tt;
-  lanes = lanes_sent g.lanes l call Idle (record { no_done = λ k r e. absurd (cc); routed = λ m _ is. absurd is; served = next.served; fits = λ busy. absurd (busy refl) }) g.script.commits.older;
-  script = script_sent g.script l call Idle next.named next.lane next.number;
+  lanes = lanes_sent g.lanes l call Idle (record { no_done = λ k r e. absurd (cc); routed = λ m is. absurd is; served = next.served; fits = λ busy. absurd (busy refl) }) g.script.commits.older;
+  script = script_sent g.script l call Idle next.named next.lane next.number (λ k r e. absurd (cc));
   records = records_sent g.records l call Idle next.idle;
   operation = operation_sent g.operation l call Idle (λ e. let idle = next.idle in absurd (cc)) (λ e. absurd (cc));
+  bars = bars_put g.bars l Idle tt;
+  knowing = knowing_sent g.knowing l call Idle next.idle next.version (λ i j e. absurd (cc));
 }
   where
     put_elsewhere : (f : ℕ → ℕ) (l x a : ℕ) → a ≢ l → put f l x a ≡ f a
@@ -109,11 +120,13 @@ answered_idle config v l k reply idle above none right g = record {
   asking = asking_put g.asking l Idle tt;
   plans = plans_put g.plans l Idle tt;
   lanes = lanes_idle g.lanes l;
-  script = script_answered g.script l k reply above none right;
+  script = script_answered g.script l k reply above none (λ _. right) (inr right.tree);
   records = records_moved g.records (put v.phase l Idle)
       (put_all (λ a q. Goes (v.phase a) q) v.phase l Idle (goes_same (v.phase l) Idle (sym idle)) (λ a _. goes_same (v.phase a) (v.phase a) refl))
       (put_all (λ a q. Stays (v.phase a) q) v.phase l Idle (λ n e. sym idle ∙ e) (λ a _ n e. e));
   operation = operation_moved g.operation (put v.phase l Idle) (put_all (λ a q. IsSteady (v.phase a) q) v.phase l Idle (steady_same (v.phase l) Idle (sym idle)) (λ a _. steady_same (v.phase a) (v.phase a) refl));
+  bars = bars_put g.bars l Idle tt;
+  knowing = knowing_put g.knowing l Idle (λ _. refl) (subst Untold (sym idle) tt) tt;
 }
 
 -- a call with a bad path is answered at once

@@ -86,8 +86,10 @@ module _ (config : Config) (v : View) (l : ℕ) (key : Key) (point : ℕ) where
       }) second in
       posted_good config pended (Node (owner v.map.table key)) point (message.FetchAsk 255 number key)
       (record {
-        asking = (inr refl, below, refl, λ j f at _. ap (λ (z : Asking). z.key) (only_one fetch j f (sym (ap (λ fs. slice_get (fs ++ fetch ∷ []) j) is.none) ∙ at)));
+        asking = (inr refl, below, (owner v.map.table key, refl, g.ground.lives key, λ _. refl), λ j f at _. ap (λ (z : Asking). z.key) (only_one fetch j f (sym (ap (λ fs. slice_get (fs ++ fetch ∷ []) j) is.none) ∙ at)));
         records = (owner v.map.table key, refl);
         operation = λ _. has_begun is.work g;
+        bars = tt;
+        knowing = tt;
       })
       third

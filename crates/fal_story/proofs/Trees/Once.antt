@@ -1,6 +1,6 @@
 -- Each call once, over a transcript that grows.
 use Rattle.std.proofs.Common.{◌≡◌, ◌≢◌, ⊎_elim, ℕ, zero, suc, ◌+◌, ◌<◌, ◌≤◌, true, false, cond, List, [], ◌∷◌, ◌++◌, length, Some, refl, sym, ap, ◌∙◌, subst, arith, take}
-use Rattle.std.specs.Prelude.{slice_get, IsSome, ◌==◌}
+use Rattle.std.specs.Prelude.{slice_get, IsSome, IsSomeAnd, ◌==◌}
 use Rattle.std.proofs.lemmas.Bool.{eq-eqb, eqb-true}
 use Rattle.std.proofs.lemmas.List.{take-append-le}
 use Rattle.std.proofs.lemmas.Option.{same_Some}
@@ -10,20 +10,19 @@ use Rattle.fal_base.specs.declared.entry.Entry.{Entry}
 use Rattle.fal_base.specs.declared.entry.Entry.TheVariants.{Sent, Commit, Opened, Placed, Stale, Answered}
 use Rattle.fal_base.specs.declared.reply.Reply.{Reply}
 use Rattle.fal_base.specs.EachOnce.{NotAnswered, NotCommitted, NotOpened, NotPlaced, IsOpen, IsLastSent, IsEachOnce}
-use Rattle.fal_base.specs.Transcript.{call_of, sents}
+use Rattle.fal_base.specs.Transcript.{call_of, sents, is_place}
 use Rattle.fal_story.proofs.Lists.Grown.{slice_get_front, slice_get_snoc, slice_get_below, put_all, put_both, unequal}
 use Rattle.fal_story.proofs.Phase.{Phase, Idle, Tells, Replies, IsUnanswered}
 use Rattle.fal_story.specs.World.{put}
 
--- each call once: so many were sent; nothing answers a call that is under way, and no commit is of one that is not executed
+-- each call once: so many were sent; nothing answers a call that is under way, and no commit and no change of placement is of one that is not executed
 pub record Once (config : Config) (entries : List Entry) (seq : ℕ → ℕ) (phase : ℕ → Phase) : Type 0 where
   pub each : IsEachOnce config entries
   pub sent : (l : ℕ) → sents l entries ≡ seq l
   pub unanswered : (l i k : ℕ) (reply : Reply) → phase l ≢ Idle → slice_get entries i ≡ Some (Answered l (seq l) k reply) → ⊥
   pub uncommitted : (l i ino : ℕ) → IsUnanswered (phase l) → slice_get entries i ≡ Some (Commit l (seq l) ino) → ⊥
+  pub unplaced : (l i version : ℕ) → IsUnanswered (phase l) → slice_get entries i ≡ Some (Placed l (seq l) version) → ⊥
   pub plain : (i l s ino point : ℕ) → slice_get entries i ≡ Some (Opened l s ino point) → ⊥
-  pub unplaced : (i l s version : ℕ) → slice_get entries i ≡ Some (Placed l s version) → ⊥
-  pub unstale : (i l s old new : ℕ) → slice_get entries i ≡ Some (Stale l s old new) → ⊥
 
 pub sents_snoc : (l : ℕ) (es : List Entry) (e : Entry) → sents l (es ++ e ∷ []) ≡ sents l es + sents l (e ∷ [])
 sents_snoc l [] e = omega arith
@@ -130,8 +129,8 @@ abbrev EntryFits : Config → List Entry → Entry → Type 0
 EntryFits config es (Sent l s) = (s ≡ sents l es + 1) × IsSome (call_of config l s)
 EntryFits config es (Commit l s ino) = (sents l es ≡ s) × (0 < s) × NotAnswered es (length es) l s × NotCommitted es (length es) l s
 EntryFits config es (Opened l s ino point) = ⊥
-EntryFits config es (Placed l s version) = ⊥
-EntryFits config es (Stale l s old new) = ⊥
+EntryFits config es (Placed l s version) = (sents l es ≡ s) × (0 < s) × NotAnswered es (length es) l s × NotPlaced es (length es) l s × IsSomeAnd (call_of config l s) (λ call. is_place call.op ≡ true)
+EntryFits config es (Stale l s old new) = (sents l es ≡ s) × (0 < s) × NotAnswered es (length es) l s
 EntryFits config es (Answered l s k r) = (sents l es ≡ s) × (0 < s) × NotAnswered es (length es) l s
 
 each_more : (config : Config) (es : List Entry) (e : Entry) → IsEachOnce config es → EntryFits config es e → IsEachOnce config (es ++ e ∷ [])
@@ -157,11 +156,15 @@ each_more config es e x fits =
           (slice_get_snoc es e j _ h);
       placed = λ j l s v h. ⊎_elim
           (λ y. let z = x.placed j l s v y in let b = slice_get_below es j _ y in (open_more es e j l s (omega arith) z.0, not_placed_more es e j l s (omega arith) z.1, z.2))
-          (λ y. absurd (subst (EntryFits config es) y.1 fits))
+          (λ y. let z = subst (EntryFits config es) y.1 fits in (
+            subst (λ i. IsOpen (es ++ e ∷ []) i l s) (sym y.0) (open_at_end config es e l s x z.0 z.1 z.2),
+            subst (λ i. NotPlaced (es ++ e ∷ []) i l s) (sym y.0) (not_placed_more es e (length es) l s (omega arith) z.3),
+            z.4,
+          ))
           (slice_get_snoc es e j _ h);
       stale = λ j l s old new h. ⊎_elim
           (λ y. let b = slice_get_below es j _ y in open_more es e j l s (omega arith) (x.stale j l s old new y))
-          (λ y. absurd (subst (EntryFits config es) y.1 fits))
+          (λ y. let z = subst (EntryFits config es) y.1 fits in subst (λ i. IsOpen (es ++ e ∷ []) i l s) (sym y.0) (open_at_end config es e l s x z.0 z.1 z.2))
           (slice_get_snoc es e j _ h);
     }
 
@@ -184,12 +187,55 @@ once_committed config entries seq phase l ino k reply live some x =
       uncommitted = λ m i n. put_all (λ m q. IsUnanswered q → slice_get (entries ++ e ∷ []) i ≡ Some (Commit m (seq m) n) → ⊥) phase l (Tells (Replies k reply))
           (λ q. absurd q)
           (λ m ne q. none_more entries e _ (λ same. ne (sym (let b : l ≡ m = cc in b))) (λ i. x.uncommitted m i n q) i) m;
+      unplaced = λ m i v. put_all (λ m q. IsUnanswered q → slice_get (entries ++ e ∷ []) i ≡ Some (Placed m (seq m) v) → ⊥) phase l (Tells (Replies k reply))
+          (λ q. absurd q)
+          (λ m _ q. none_more entries e _ (λ same. cc) (λ i. x.unplaced m i v q) i) m;
       plain = λ i m s n p. none_more entries e _ (λ same. cc) (λ i. x.plain i m s n p) i;
-      unplaced = λ i m s v. none_more entries e _ (λ same. cc) (λ i. x.unplaced i m s v) i;
-      unstale = λ i m s old new. none_more entries e _ (λ same. cc) (λ i. x.unstale i m s old new) i;
     }
 
--- the lane's next call was not sent, so that it has no answer and no commit yet
+-- or its change of placement
+pub once_placed : (config : Config) (entries : List Entry) (seq : ℕ → ℕ) (phase : ℕ → Phase) (l version k : ℕ) (reply : Reply) → IsUnanswered (phase l) → 0 < seq l → IsSomeAnd (call_of config l (seq l)) (λ call. is_place call.op ≡ true) → Once config entries seq phase
+    → Once config (entries ++ Placed l (seq l) version ∷ []) seq (put phase l (Tells (Replies k reply)))
+once_placed config entries seq phase l version k reply live some places x =
+    let e = Placed l (seq l) version in
+    let was : phase l ≢ Idle = λ idle. subst IsUnanswered idle live in
+    record {
+      each = each_more config entries e x.each (x.sent l, some, (λ i p r less h. x.unanswered l i p r was h), (λ i v less h. x.unplaced l i v live h), places);
+      sent = λ m. let y = sents_snoc m entries e in let z = x.sent m in omega arith;
+      unanswered = λ m i p r. put_all (λ m q. q ≢ Idle → slice_get (entries ++ e ∷ []) i ≡ Some (Answered m (seq m) p r) → ⊥) phase l (Tells (Replies k reply))
+          (λ _. none_more entries e _ (λ same. cc) (λ i. x.unanswered l i p r was) i)
+          (λ m _ q. none_more entries e _ (λ same. cc) (λ i. x.unanswered m i p r q) i) m;
+      uncommitted = λ m i n. put_all (λ m q. IsUnanswered q → slice_get (entries ++ e ∷ []) i ≡ Some (Commit m (seq m) n) → ⊥) phase l (Tells (Replies k reply))
+          (λ q. absurd q)
+          (λ m _ q. none_more entries e _ (λ same. cc) (λ i. x.uncommitted m i n q) i) m;
+      unplaced = λ m i v. put_all (λ m q. IsUnanswered q → slice_get (entries ++ e ∷ []) i ≡ Some (Placed m (seq m) v) → ⊥) phase l (Tells (Replies k reply))
+          (λ q. absurd q)
+          (λ m ne q. none_more entries e _ (λ same. ne (sym (let b : l ≡ m = cc in b))) (λ i. x.unplaced m i v q) i) m;
+      plain = λ i m s n p. none_more entries e _ (λ same. cc) (λ i. x.plain i m s n p) i;
+    }
+
+-- the client of one learns that its table is stale, and goes on with the call
+pub once_staled : (config : Config) (entries : List Entry) (seq : ℕ → ℕ) (phase : ℕ → Phase) (l old new : ℕ) (q : Phase) → IsUnanswered (phase l) → 0 < seq l → Once config entries seq phase
+    → Once config (entries ++ Stale l (seq l) old new ∷ []) seq (put phase l q)
+once_staled config entries seq phase l old new q live some x =
+    let e = Stale l (seq l) old new in
+    let was : phase l ≢ Idle = λ idle. subst IsUnanswered idle live in
+    record {
+      each = each_more config entries e x.each (x.sent l, some, (λ i p r less h. x.unanswered l i p r was h));
+      sent = λ m. let y = sents_snoc m entries e in let z = x.sent m in omega arith;
+      unanswered = λ m i p r. put_all (λ m t. t ≢ Idle → slice_get (entries ++ e ∷ []) i ≡ Some (Answered m (seq m) p r) → ⊥) phase l q
+          (λ _. none_more entries e _ (λ same. cc) (λ i. x.unanswered l i p r was) i)
+          (λ m _ t. none_more entries e _ (λ same. cc) (λ i. x.unanswered m i p r t) i) m;
+      uncommitted = λ m i n. put_all (λ m t. IsUnanswered t → slice_get (entries ++ e ∷ []) i ≡ Some (Commit m (seq m) n) → ⊥) phase l q
+          (λ _. none_more entries e _ (λ same. cc) (λ i. x.uncommitted l i n live) i)
+          (λ m _ t. none_more entries e _ (λ same. cc) (λ i. x.uncommitted m i n t) i) m;
+      unplaced = λ m i v. put_all (λ m t. IsUnanswered t → slice_get (entries ++ e ∷ []) i ≡ Some (Placed m (seq m) v) → ⊥) phase l q
+          (λ _. none_more entries e _ (λ same. cc) (λ i. x.unplaced l i v live) i)
+          (λ m _ t. none_more entries e _ (λ same. cc) (λ i. x.unplaced m i v t) i) m;
+      plain = λ i m s n p. none_more entries e _ (λ same. cc) (λ i. x.plain i m s n p) i;
+    }
+
+-- the lane's next call was not sent, so that it has no answer, no commit and no change of placement yet
 next_unsent : (config : Config) (entries : List Entry) (seq : ℕ → ℕ) (phase : ℕ → Phase) (l j : ℕ) → Once config entries seq phase → IsOpen entries j l (seq l + 1) → ⊥
 next_unsent config entries seq phase l j x is =
     let number = (x.each.sent is.place l (seq l + 1) is.sent).0 in
@@ -202,6 +248,9 @@ next_unanswered config entries seq phase l i k reply x h = next_unsent config en
 
 next_uncommitted : (config : Config) (entries : List Entry) (seq : ℕ → ℕ) (phase : ℕ → Phase) (l i ino : ℕ) → Once config entries seq phase → slice_get entries i ≡ Some (Commit l (seq l + 1) ino) → ⊥
 next_uncommitted config entries seq phase l i ino x h = next_unsent config entries seq phase l i x (x.each.committed i l (seq l + 1) ino h).0
+
+next_unplaced : (config : Config) (entries : List Entry) (seq : ℕ → ℕ) (phase : ℕ → Phase) (l i version : ℕ) → Once config entries seq phase → slice_get entries i ≡ Some (Placed l (seq l + 1) version) → ⊥
+next_unplaced config entries seq phase l i version x h = next_unsent config entries seq phase l i x (x.each.placed i l (seq l + 1) version h).0
 
 -- a call is sent
 pub once_sent : (config : Config) (entries : List Entry) (seq : ℕ → ℕ) (phase : ℕ → Phase) (l : ℕ) (q : Phase) → IsSome (call_of config l (seq l + 1)) → Once config entries seq phase
@@ -219,9 +268,10 @@ once_sent config entries seq phase l q named x =
       uncommitted = λ m i n. put_both (λ m s t. IsUnanswered t → slice_get (entries ++ e ∷ []) i ≡ Some (Commit m s n) → ⊥) seq phase l (seq l + 1) q
           (λ _. none_more entries e _ (λ same. cc) (λ j. next_uncommitted config entries seq phase l j n x) i)
           (λ m _ t. none_more entries e _ (λ same. cc) (λ j. x.uncommitted m j n t) i) m;
+      unplaced = λ m i v. put_both (λ m s t. IsUnanswered t → slice_get (entries ++ e ∷ []) i ≡ Some (Placed m s v) → ⊥) seq phase l (seq l + 1) q
+          (λ _. none_more entries e _ (λ same. cc) (λ j. next_unplaced config entries seq phase l j v x) i)
+          (λ m _ t. none_more entries e _ (λ same. cc) (λ j. x.unplaced m j v t) i) m;
       plain = λ i m s n p. none_more entries e _ (λ same. cc) (λ j. x.plain j m s n p) i;
-      unplaced = λ i m s v. none_more entries e _ (λ same. cc) (λ j. x.unplaced j m s v) i;
-      unstale = λ i m s old new. none_more entries e _ (λ same. cc) (λ j. x.unstale j m s old new) i;
     }
 
 -- the lane's last call is answered, which was not
@@ -238,9 +288,10 @@ once_answered config entries seq phase l k reply some none x =
       uncommitted = λ m i n. put_all (λ m t. IsUnanswered t → slice_get (entries ++ e ∷ []) i ≡ Some (Commit m (seq m) n) → ⊥) phase l Idle
           (λ t. absurd t)
           (λ m ne t. none_more entries e _ (λ same. cc) (λ j. x.uncommitted m j n t) i) m;
+      unplaced = λ m i v. put_all (λ m t. IsUnanswered t → slice_get (entries ++ e ∷ []) i ≡ Some (Placed m (seq m) v) → ⊥) phase l Idle
+          (λ t. absurd t)
+          (λ m ne t. none_more entries e _ (λ same. cc) (λ j. x.unplaced m j v t) i) m;
       plain = λ i m s n p. none_more entries e _ (λ same. cc) (λ j. x.plain j m s n p) i;
-      unplaced = λ i m s v. none_more entries e _ (λ same. cc) (λ j. x.unplaced j m s v) i;
-      unstale = λ i m s old new. none_more entries e _ (λ same. cc) (λ j. x.unstale j m s old new) i;
     }
 
 -- nothing answers the call that was sent just now

@@ -1,6 +1,6 @@
 -- After every legal run each row stands at the owner of its key, even where an operation has still to be carried out at some nodes.
 use Rattle.std.proofs.Common.{◌≡◌, ◌⊎◌, inl, inr, ⊎_elim, ℕ, ◌||◌, true, false, cond, List, [], ◌∷◌, Option, None, Some, refl, sym, ap, ◌∙◌, subst, eqb-true}
-use Rattle.std.specs.Prelude.{◌==◌, IsSome, if◌then◌else◌}
+use Rattle.std.specs.Prelude.{◌==◌, IsSome, is_some, if◌then◌else◌}
 use Rattle.fal_base.specs.declared.call.Config.{Config}
 use Rattle.fal_base.specs.declared.event.Event.{Event}
 use Rattle.fal_base.specs.declared.key.Key.{Key}
@@ -16,9 +16,10 @@ use Rattle.fal_story.proofs.Events.LegalRuns.{legal_kept}
 use Rattle.fal_story.proofs.Events.Shows.{view_of}
 use Rattle.fal_story.proofs.Families.Operation.{Stands}
 use Rattle.fal_story.proofs.Good.{Good}
+use Rattle.fal_story.proofs.Steps.Reads.{IsFree, due_free}
 use Rattle.fal_story.proofs.Trees.Standing.{row_of}
 use Rattle.fal_story.proofs.Trees.TreeRows.{below_or_past}
-use Rattle.fal_story.proofs.View.{View, Work, Rests, Walks, Locks, Counts, Ends, now}
+use Rattle.fal_story.proofs.View.{View, Work, Rests, Walks, Locks, Counts, Ends, now, Blocks, Lands}
 use Rattle.fal_story.specs.AllRows.{AreOnce}
 use Rattle.fal_story.specs.Run.{IsLegal, run}
 use Rattle.fal_story.specs.World.{World}
@@ -35,29 +36,35 @@ owned_live table n (u ∷ us) key is =
       | false ↦ λ _ among. owned_live table n us key among
     ] refl is
 
--- nothing is due at a node, or its part of the updates
-due_is : (table : Placement) (operation n : ℕ) (work : Work) (shut : Option _) (queued : Option _) (last : ℕ) (due : List Update) → Stands table operation work n shut queued last due → (due ≡ []) ⊎ ((us : List Update) × (due ≡ owned table n us))
-due_is table operation n Rests shut queued last due stands = inl stands.0
-due_is table operation n (Walks lane) shut queued last due stands = inl stands.0
-due_is table operation n (Locks lane keys walks missing rows) shut queued last due stands = inl stands.0
-due_is table operation n (Counts lane keys walks missing rows dir updates sum) shut queued last due stands = inl stands.0
-due_is table operation n (Ends keys updates missing) shut queued last due stands = ⊎_elim (λ x. inr (updates, x.0)) (λ x. inl x.0) stands
+-- of a key whose rows are not on their way, nothing is due at a node, or its part of the updates
+due_is : (table : Placement) (operation n : ℕ) (work : Work) (shut : Option _) (queued : Option _) (last : ℕ) (due : List Update) (key : Key) → IsFree work due key → Stands table operation work n shut queued last due
+    → (is_among key (keys_of due) ≡ false) ⊎ ((us : List Update) × (due ≡ owned table n us))
+due_is table operation n Rests shut queued last due key free stands = inl (ap (λ us. is_among key (keys_of us)) stands.0)
+due_is table operation n (Walks lane) shut queued last due key free stands = inl (ap (λ us. is_among key (keys_of us)) stands.0)
+due_is table operation n (Locks lane keys walks missing rows) shut queued last due key free stands = inl (ap (λ us. is_among key (keys_of us)) stands.0)
+due_is table operation n (Counts lane keys walks missing rows dir updates sum) shut queued last due key free stands = inl (ap (λ us. is_among key (keys_of us)) stands.0)
+due_is table operation n (Blocks lane name rule missing came) shut queued last due key free stands = inl free
+due_is table operation n (Lands name rule old missing) shut queued last due key free stands = inl free
+due_is table operation n (Ends keys updates missing) shut queued last due key free stands = ⊎_elim (λ x. inr (updates, x.0)) (λ x. inl (ap (λ us. is_among key (keys_of us)) x.0)) stands
 
 -- a node's row stands under a key that lives there
 own_key : (config : Config) (v : View) (n : ℕ) (key : Key) → Good config v → IsSome (row_at (v.rows n) key) → owner v.map.table key ≡ n
 own_key config v n key g is =
     elim (is_among key (keys_of (v.op.due n))) as (λ b. is_among key (keys_of (v.op.due n)) ≡ b → owner v.map.table key ≡ n) [
       | true ↦ λ among. ⊎_elim {C = owner v.map.table key ≡ n}
-          (λ none. let no : is_among key (keys_of (v.op.due n)) ≡ false = ap (λ us. is_among key (keys_of us)) none in absurd (cc))
+          (λ none. absurd (cc))
           (λ some. owned_live v.map.table n some.0 key (subst (λ us. is_among key (keys_of us) ≡ true) some.1 among))
           due
       | false ↦ λ off. by_owner (subst (λ o. IsSome o) (sym (laid_off (v.op.due n) (v.rows n) key off) ∙ g.ground.rows n key) is)
     ] refl
   where
-    due : (v.op.due n ≡ []) ⊎ ((us : List Update) × (v.op.due n ≡ owned v.map.table n us))
+    -- a row stands there, so that its name is not blocked
+    due : (is_among key (keys_of (v.op.due n)) ≡ false) ⊎ ((us : List Update) × (v.op.due n ≡ owned v.map.table n us))
     due = ⊎_elim
-        (λ below. due_is v.map.table v.op.operation n v.op.work (v.op.shut n) (v.op.queued n) (v.op.last n) (v.op.due n) (g.operation.stands n below))
-        (λ past. inl (g.ground.absent n past).0)
+        (λ below. due_is v.map.table v.op.operation n v.op.work (v.op.shut n) (v.op.queued n) (v.op.last n) (v.op.due n) key
+        (due_free v.map.table v.op.operation n v.op.work (v.map.tables n) (v.map.barred n) (v.op.queued n) (v.op.last n) v.op.due key (g.bars.stands n below) g.bars.named (λ barred. let wrong : false ≡ true = sym (ap is_some (g.bars.gone n key barred)) ∙ is in absurd (cc)))
+        (g.operation.stands n below))
+        (λ past. inl (ap (λ us. is_among key (keys_of us)) (g.ground.absent n past).0))
         (below_or_past n config.nodes)
 
     by_owner : IsSome (row_of v.map.table (now v) n key) → owner v.map.table key ≡ n

@@ -20,14 +20,13 @@ use Rattle.fal_coord.specs.declared.stage.Stage.{Stage}
 use Rattle.fal_coord.specs.declared.stage.Stage.TheVariants as stage
 use Rattle.fal_coord.specs.State.{CoordState, is_idle, is_quiet}
 use Rattle.fal_place.specs.Hash.{name_hash}
-use Rattle.fal_place.specs.Placement.{opening_table, owner, is_root_key}
+use Rattle.fal_place.specs.Placement.{opening_table, owner, is_root_key, Placement}
 use Rattle.fal_story.proofs.Events.Doing.{work_of}
 use Rattle.fal_story.proofs.Events.LegalRuns.{IsKept, legal_kept}
 use Rattle.fal_story.proofs.Events.Shows.{view_of}
 use Rattle.fal_story.proofs.Families.Operation.{Stands}
 use Rattle.fal_story.proofs.Good.{Good}
 use Rattle.fal_story.proofs.Lists.Grown.{tells}
-use Rattle.fal_story.proofs.Trees.Standing.{table_of}
 use Rattle.fal_story.specs.AllRows.{with_tree, all_rows, tree_left}
 use Rattle.fal_story.specs.Clusters.{IsCluster}
 use Rattle.fal_story.specs.Run.{IsLegal, run, entries_at}
@@ -108,14 +107,14 @@ abbrev trees_of : Config → World → List Tree
 trees_of config w = map (λ n. (w.nodes n).rows) (range_with_len 0 config.nodes)
 
 -- no operation is under way
-is_at_rest : (c : CoordState) → is_quiet c ≡ true → work_of c.stage ≡ Rests
-is_at_rest c quiet = rests_at c.stage (second (length c.waiting == 0) (is_idle c.stage) quiet)
+is_at_rest : (before : Placement) (c : CoordState) → is_quiet c ≡ true → work_of before c.stage ≡ Rests
+is_at_rest before c quiet = rests_at c.stage (second (length c.waiting == 0) (is_idle c.stage) quiet)
   where
     second : (a b : Bool) → (a && b) ≡ true → b ≡ true
     second true b is = is
     second false b is = absurd (cc)
 
-    rests_at : (s : Stage) → is_idle s ≡ true → work_of s ≡ Rests
+    rests_at : (s : Stage) → is_idle s ≡ true → work_of before s ≡ Rests
     rests_at stage.Idle is = refl
     rests_at (stage.Walk call number key) is = absurd (cc)
     rests_at (stage.Lock operation missing rows) is = absurd (cc)
@@ -136,12 +135,12 @@ kept_rows : (config : Config) (w : World) → IsCluster config → is_quiet w.co
 kept_rows config w cluster quiet k =
     let some : 0 < config.nodes = let s = cluster.some_nodes in omega arith in
     let tree = tree_at w.commits (length w.commits) in
-    let rests = is_at_rest w.coord quiet in
+    let rests = is_at_rest k.ghost.before w.coord quiet in
     let due = λ (n : ℕ). none_due_at_rest config (view_of config w k.ghost) n rests k.shows.good in
     let rows = λ (n : ℕ) (q : Key). sym (ap (λ us. row_at (laid us (w.nodes n).rows) q) (due n)) ∙ k.shows.good.ground.rows n q in
     same_tree (all_rows (trees_of config w)) tree (in_order_all (trees_of config w)) (in_order w.commits (length w.commits)) (λ q.
-    let below : owner (table_of config) q < config.nodes = owner_below config.nodes q some in
-    reached (λ n. (w.nodes n).rows) q (owner (table_of config) q) (row_at tree q) (λ n. rows n q) [] 0 config.nodes refl (omega arith) (omega arith))
+    let below : owner w.coord.table q < config.nodes = k.shows.good.ground.lives q in
+    reached (λ n. (w.nodes n).rows) q (owner w.coord.table q) (row_at tree q) (λ n. rows n q) [] 0 config.nodes refl (omega arith) (omega arith))
 
 -- after a legal run that leaves no operation under way the rows of the nodes, from node 0 on, are the tree that the commits leave
 pub rows_are_tree : (config : Config) (events : List Event) (w : World) → IsLegal config events → run config events ≡ Some w → is_quiet w.coord ≡ true

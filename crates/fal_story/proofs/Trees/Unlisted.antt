@@ -1,5 +1,5 @@
 -- The calls that are served are never answered with names.
-use Rattle.std.proofs.Common.{◌≡◌, ℕ, Bool, true, false, not, ◌&&◌, ◌||◌, ◌==◌, cond, List, [], ◌∷◌, Option, None, Some, refl, ap, ◌∙◌}
+use Rattle.std.proofs.Common.{◌≡◌, ⊎_elim, ℕ, Bool, true, false, not, ◌&&◌, ◌||◌, ◌==◌, cond, List, [], ◌∷◌, Option, None, Some, refl, ap, ◌∙◌}
 use Rattle.std.specs.Prelude.{IsTrue, is_some}
 use Rattle.std.specs.List.{list_any}
 use Rattle.fal_base.specs.declared.call.Config.{Config}
@@ -12,16 +12,19 @@ use Rattle.fal_base.specs.declared.op.Op.TheVariants as op
 use Rattle.fal_base.specs.declared.path.PathArg.{PathArg}
 use Rattle.fal_base.specs.declared.path.PathArg.TheVariants.{Good, Bad}
 use Rattle.fal_base.specs.declared.reply.Errno.{Errno}
-use Rattle.fal_base.specs.declared.reply.Errno.TheVariants.{Eacces, Ebusy, Eexist, Einval, Eisdir, Enotdir, Enotempty, Eperm}
+use Rattle.fal_base.specs.declared.reply.Errno.TheVariants.{Eacces, Ebusy, Eexist, Einval, Eisdir, Enospc, Enotdir, Enotempty, Eperm}
 use Rattle.fal_base.specs.declared.reply.Reply.{Reply}
 use Rattle.fal_base.specs.declared.reply.Reply.TheVariants.{Fine, Fail, Stat, Names}
+use Rattle.fal_base.specs.declared.rule.Rule.{Rule}
 use Rattle.fal_base.specs.Answer.{answer, checked, found, walked, reached, parent_grants, is_root, has_entries, inode_answer, replace_answer, rmdir_answer, rename_answer}
 use Rattle.fal_base.specs.Listing.{AreListings}
+use Rattle.fal_base.specs.Places.{is_full, is_outside, place_answer, ArePlaced}
 use Rattle.fal_base.specs.Transcript.{is_names}
 use Rattle.fal_base.specs.Tree.{Tree, row_at, same_key}
 use Rattle.fal_base.specs.Walk.{Walked, Stop, Ready, walk, is_dir, grants}
-use Rattle.fal_story.proofs.Events.ClientEvent.{call_is}
+use Rattle.fal_story.proofs.Events.ServedCalls.{call_is}
 use Rattle.fal_story.proofs.Families.Script.{Answers}
+use Rattle.fal_story.proofs.Trees.Placings.{tells_place}
 use Rattle.fal_story.specs.Clusters.{IsCluster, is_served}
 
 checked_unlisted : (checks : List (Bool × Errno)) (reply : Reply) → is_names reply ≡ false → is_names (checked checks reply) ≡ false
@@ -92,9 +95,14 @@ served_unlisted tree cred (op.Rename old new) is = rename_unlisted tree cred old
 served_unlisted tree cred (op.List path) is = absurd (cc)
 served_unlisted tree cred (op.Place name rule) is = absurd (cc)
 
+place_unlisted : (nodes : ℕ) (ruled : List (List ℕ)) (cred : Cred) (name : List ℕ) (rule : Rule) → is_names (place_answer nodes ruled cred name rule) ≡ false
+place_unlisted nodes ruled cred name rule = checked_unlisted ((not (cred.uid == 0), Eperm) ∷ (is_outside rule nodes, Einval) ∷ (is_full ruled name, Enospc) ∷ []) Fine refl
+
 -- so there is no listing
-pub none_listed : (config : Config) (entries : List Entry) (seq : ℕ → ℕ) (phase : ℕ → _) → IsCluster config → Answers config entries seq phase → AreListings config entries
-none_listed config entries seq phase cluster answers j l s e names call is named =
-    let right = (answers j l s e (Names names) is).2 call named in
-    let none : true ≡ false = ap is_names right.served ∙ served_unlisted _ call.cred call.op (call_is config l s call cluster named).served in
+pub none_listed : (config : Config) (entries : List Entry) (seq : ℕ → ℕ) (phase : ℕ → _) → IsCluster config → Answers config entries seq phase → ArePlaced config entries → AreListings config entries
+none_listed config entries seq phase cluster answers placed j l s e names call is named =
+    let none : true ≡ false = ⊎_elim
+    (λ tree. ap is_names ((answers j l s e (Names names) is).2 call named tree).served ∙ served_unlisted _ call.cred call.op (call_is config l s call cluster named).served)
+    (λ x. ap is_names (placed.answers j l s e (Names names) call x.0 x.1.0 is named x.1.1).served ∙ place_unlisted config.nodes _ call.cred x.0 x.1.0)
+    (tells_place call.op) in
     absurd (cc)

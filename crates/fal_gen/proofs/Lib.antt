@@ -1,0 +1,5 @@
+mod MadeLines
+mod MadeOps
+mod MadePaths
+mod ShortNames
+mod Words

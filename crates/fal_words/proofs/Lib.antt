@@ -1,0 +1,11 @@
+pub mod Forms
+pub mod Rows
+pub mod Uses
+pub mod Line
+pub mod Turns
+pub mod Runs
+pub mod Walks
+pub mod Flags
+pub mod Falcon
+pub mod Defaults
+pub mod Grammar
