@@ -6,6 +6,7 @@ use Rattle.fal_base.specs.declared.key.Key.{Key}
 use Rattle.fal_base.specs.declared.row.Update.{Update}
 use Rattle.fal_base.specs.Tree.{Tree, row_at, names_under}
 use Rattle.fal_base.specs.Walk.{dentry_of}
+use Rattle.fal_inode.specs.Named.{rows_named}
 use Rattle.fal_place.specs.Placement.{Placement, owner}
 use Rattle.fal_wire.specs.declared.message.Found.{Found}
 use Rattle.fal_wire.specs.declared.message.Found.TheVariants.{Nothing, File, Dir}
@@ -42,3 +43,7 @@ locked_of table tree n operation keys = message.Locked operation n (rows_of tabl
 -- the answer to how many entries the directory has at this node
 abbrev pub count_told : Tree → ℕ → ℕ → ℕ → Message
 count_told tree n operation dir = message.Counted operation n (length (names_under tree dir))
+
+-- the answer of a node that gives away its rows of the name
+abbrev pub blocked_of : Tree → ℕ → ℕ → List ℕ → Message
+blocked_of tree n operation name = message.Blocked operation n (rows_named tree name)

@@ -5,4 +5,4 @@ mod fetch;
 mod operation;
 
 pub use fetch::fetched;
-pub use operation::{counted, locked, mine};
+pub use operation::{blocked, counted, locked, mine};

@@ -1,10 +1,10 @@
 ghost use Rattle.std.specs.Prelude.{◌≡◌, IfOk};
-ghost use Rattle.fal_duty.specs.Duties.{owned, rows_of as rows_at_node, locked_of, count_told};
+ghost use Rattle.fal_duty.specs.Duties.{owned, rows_of as rows_at_node, locked_of, count_told, blocked_of};
 
-use fal_base::{Duplicate, Key, OutOfMemory, Update};
+use fal_base::{Duplicate, Key, Name, OutOfMemory, Update};
 use fal_inode::Rows;
 use fal_place::Table;
-use fal_wire::{Message, UpdateList};
+use fal_wire::{Message, NamedRowList, UpdateList};
 use std::alloc::Global;
 
 // What stands under those of the keys that live at this node, in the order of the keys.
@@ -48,6 +48,25 @@ pub fn locked(
         op,
         node: me,
         rows: UpdateList::from_items(told),
+    })
+}
+
+/// The answer of node `me` to an operation that moves the rows of a name: those that this node has, under whatever directories. Answers
+/// want of memory where there is too little.
+pub fn blocked(
+    _alloc: Global,
+    rows: &Rows,
+    me: u8,
+    op: u32,
+    name: &Name,
+) -> Result<Message, OutOfMemory>
+    ensures { IfOk result (λ message. message ≡ blocked_of rows.now.rows me op name.now) }
+{
+    let named = rows.rows_of(name)?;
+    Ok(Message::Blocked {
+        op,
+        node: me,
+        rows: NamedRowList::from_items(named),
     })
 }
 

@@ -4,7 +4,7 @@ ghost use Rattle.std.specs.List.Sorted.{IsStrictlySortedBy};
 ghost use Rattle.std.specs.Ordering.{nat_cmp};
 ghost use Rattle.std.specs.Cmp.Lexicographic.{slice_cmp};
 ghost use Rattle.fal_base.specs.Tree.{row_at, with_row, without_row, names_under, lines_of, IsInOrder};
-ghost use Rattle.fal_inode.specs.Named.{rows_named};
+ghost use Rattle.fal_inode.specs.Named.{rows_named, without_named, first_parent};
 
 use fal_base::{Duplicate, Inode, Key, KeyMap, Name, NamedRow, OutOfMemory, TreeLine};
 use std::alloc::Global;
@@ -23,6 +23,20 @@ impl Model for Rows {
     ghost Value = { SeenRows };
 
     ghost view = { λ r. record { rows = r.map.entries; spare = r.map.spare } };
+}
+
+// The parent of the first row of this name.
+fn first_parent_of(entries: &[(Key, Inode)], name: &Name) -> Option<u64>
+    ensures { result ≡ first_parent entries.now name.now }
+{
+    let mut rest = entries;
+    while let Some((entry, others)) = rest.split_first() {
+        if entry.0.name == *name {
+            return Some(entry.0.parent);
+        }
+        rest = others;
+    }
+    None
 }
 
 impl Rows {
@@ -71,6 +85,21 @@ impl Rows {
         ensures room { self.old.spare ≤ self.new.spare }
     {
         self.map.take(key)
+    }
+
+    /// Takes out the rows of this name, under whatever directories they stand, and hands the name back. Takes no memory.
+    pub fn drop_named(&mut self, name: Name) -> Name
+        ensures name { result ≡ name }
+        ensures rows { self.new.rows ≡ without_named self.old.rows name }
+        ensures room { self.old.spare ≤ self.new.spare }
+    {
+        let mut key = Key { parent: 0, name };
+        while let Some(parent) = first_parent_of(self.map.as_slice(), &key.name) {
+            key.parent = parent;
+            self.map.take(&key);
+        }
+        let Key { parent: _, name } = key;
+        name
     }
 
     /// How many rows stand under the directory of this number. Takes no memory.
