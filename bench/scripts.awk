@@ -2,6 +2,7 @@
 #   pair   mkdir and stat at depth 3, a quarter of the calls on missing names
 #   mixed  the operations that a node carries out alone, by two callers
 #   moved  the same, mostly on files that are there, but for a tenth of the calls: chmod, rmdir and rename of directories
+#   placed the same as mixed, but every hundredth call places a name, by any rule
 #   wide   files of one directory: created, looked up and removed, at most 3,000 of them at once
 function draw(below) { state = (state * 69069 + 12345) % 4294967296; return int(state / 65536) % below }
 function name(k) { return substr("abcdefghijklmnopqrstuvwxyz", k + 1, 1) }
@@ -35,6 +36,11 @@ function moved(missing,   k, to) {
     if (k == 1) { line("0:0 rmdir " own); own = "" }
     if (k > 1) { to = path(0); line("0:0 rename " own " " to); own = to }
 }
+function placed(missing,   k) {
+    if (done % 100) { mixed(missing); return }
+    k = draw(3)
+    line("0:0 place " name(draw(26)) draw(40) " " (k == 0 ? "hash" : k == 1 ? "parent" : "node:" draw(nodes)))
+}
 function wide(missing,   file) {
     file = "/a/b/file" draw(3000)
     if (done < 3200 || missing) line("0:0 create " file " 644")
@@ -53,6 +59,7 @@ BEGIN {
         if (kind == "pair") pair(missing)
         if (kind == "mixed") mixed(missing)
         if (kind == "moved") moved(missing)
+        if (kind == "placed") placed(missing)
         if (kind == "wide") wide(missing)
     }
 }

@@ -124,10 +124,21 @@ impl CoordPost {
         ensures { result ≡ self }
     {
         let CoordPost {
-            coord: _coord,
+            coord,
             seat,
             inbox: _inbox,
         } = self;
+        coord.discard();
         seat
+    }
+
+    /// Lets the coordinator go, with its seat.
+    pub fn discard(self) {
+        let CoordPost {
+            coord,
+            seat: _seat,
+            inbox: _inbox,
+        } = self;
+        coord.discard();
     }
 }

@@ -12,6 +12,7 @@ use fal_base::{Config, Event, OutOfMemory, Refuse};
 use fal_book::{ActorSeat, BookLock};
 use fal_story::Book;
 use std::alloc::Global;
+use std::mem;
 use std::sync::Wait;
 
 /// The nodes from 0, the clients of the lanes from 1 and the coordinator, at their seats, and the seats that no actor of the cluster has.
@@ -21,6 +22,21 @@ pub struct Posts {
     pub clients: Vec<ClientPost>,
     pub coord: Option<CoordPost>,
     pub rest: Vec<ActorSeat<Book>>,
+}
+
+impl Posts {
+    /// Lets the actors go, with their seats.
+    pub fn discard(self) {
+        let Posts {
+            nodes: _nodes,
+            clients: _clients,
+            coord,
+            rest: _rest,
+        } = self;
+        if let Some(post) = coord {
+            post.discard();
+        }
+    }
 }
 
 // Gives a seat to a node.
@@ -82,7 +98,10 @@ fn give_coord(
     requires number { seat.number ≡ 16 }
     ensures { ForSome coord.new (IsAt lock.now.table) }
 {
-    *coord = Some(CoordPost::new(alloc, config, seat));
+    let post = CoordPost::new(alloc, config, seat);
+    if let Some(earlier) = mem::replace(coord, Some(post)) {
+        earlier.discard();
+    }
 }
 
 // Gives one more seat to its actor.
@@ -131,7 +150,10 @@ pub fn post_all(
         rest: Vec::new(alloc),
     };
     for seat in seats {
-        give(alloc, lock, config, seat, &mut posts)?;
+        if let Err(OutOfMemory) = give(alloc, lock, config, seat, &mut posts) {
+            posts.discard();
+            return Err(OutOfMemory);
+        }
     }
     Ok(posts)
 }

@@ -52,7 +52,10 @@ fn seats_after<R: Wait>(
     ensures { IfOk result (λ seats. All (IsAt lock.now.table) seats.items) }
 {
     let mut posts = posts;
-    enter_each(rt, lock, &mut posts, events)?;
+    if let Err(refuse) = enter_each(rt, lock, &mut posts, events) {
+        posts.discard();
+        return Err(refuse);
+    }
     match seats_of(lock, posts) {
         Ok(seats) => Ok(seats),
         Err(OutOfMemory) => Err(Refuse::OutOfMemory),

@@ -11,7 +11,9 @@ use Rattle.fal_base.specs.declared.event.Event.TheVariants as event
 use Rattle.fal_base.specs.declared.inode.Dentry.{Dentry}
 use Rattle.fal_base.specs.declared.event.Point.TheVariants.{Here}
 use Rattle.fal_base.specs.declared.key.Key.{Key}
+use Rattle.fal_base.specs.declared.row.NamedRow.{NamedRow}
 use Rattle.fal_base.specs.declared.row.Update.{Update}
+use Rattle.fal_base.specs.declared.rule.Rule.{Rule}
 use Rattle.fal_batch.specs.Plan.{Planning}
 use Rattle.fal_client.specs.declared.event.ClientEvent.TheVariants as client
 use Rattle.fal_client.specs.State.{Work as ClientWork}
@@ -26,13 +28,14 @@ use Rattle.fal_run.specs.declared.call.BatchCall.{BatchCall}
 use Rattle.fal_node.specs.declared.event.NodeEvent.{NodeEvent}
 use Rattle.fal_node.specs.declared.event.NodeEvent.TheVariants.{Deliver, Gather, Exec, Release, Serve}
 use Rattle.fal_node.specs.declared.item.Item.{Item}
-use Rattle.fal_node.specs.Deliver.{admitted, learned, dismissed, settle, settle_pending, with_operation, take_operation, take_count, take_commit, reopened, take_message, take_read, delivered}
+use Rattle.fal_node.specs.Deliver.{admitted, learned, dismissed, settle, settle_pending, with_operation, take_operation, take_count, take_commit, reopened, name_blocked, installed, install_named, take_install, take_message, take_read, delivered}
 use Rattle.fal_node.specs.Exec.{exec_all, exec_one, exec_as, executed, with_executed}
 use Rattle.fal_node.specs.Gather.{plan_at, leaving, with_waiting, batch_calls, with_batch, batched, gathered}
 use Rattle.fal_node.specs.Letters.{Work, begun, is_asker}
-use Rattle.fal_node.specs.Serve.{served, service_of, shutting}
+use Rattle.fal_node.specs.Serve.{served, service_of, shutting, blocking}
 use Rattle.fal_node.specs.State.{NodeState, is_of, opening_node, with_item, without_item, released}
 use Rattle.fal_node.specs.Step.{node_step}
+use Rattle.fal_place.specs.Placement.{is_within}
 use Rattle.fal_wait.specs.declared.pending_fetch.PendingFetch.{PendingFetch}
 use Rattle.fal_wait.specs.Waiting.{fetch_of}
 use Rattle.fal_wire.specs.declared.fault.WireFault.{WireFault}
@@ -92,6 +95,16 @@ unfolding reopened
 commit_items x operation updates h =
     elim (is_of x.locks.shut operation) as (λ b. HasItems (cond b (record { node = reopened x operation (owned x.table x.number updates); sent = letter Coord (Here 0) (message.Done operation x.number) ∷ []; notes = [] }) (begun x)).node) [ true ↦ record { apart = h.apart; below = h.below } | false ↦ h ]
 
+named_items : (x : NodeState) (operation version : ℕ) (rule : Rule) (rows : List NamedRow) (name : Option (List ℕ)) → HasItems x → HasItems (install_named x operation version rule rows name).node
+unfolding installed
+named_items x operation version rule rows None h = h
+named_items x operation version rule rows (Some name) h = record { apart = h.apart; below = h.below }
+
+install_items : (x : NodeState) (operation version : ℕ) (rule : Rule) (rows : List NamedRow) → HasItems x → HasItems (take_install x operation version rule rows).node
+install_items x operation version rule rows h =
+    let name = name_blocked x.blocked operation in
+    elim (is_within x.table.nodes rule) as (λ b. HasItems (cond b (install_named x operation version rule rows name) (begun x)).node) [ true ↦ named_items x operation version rule rows name h | false ↦ h ]
+
 learned_items : (x : NodeState) (number : ℕ) (key : Key) (dentry : Dentry) → HasItems x → HasItems (learned x number key dentry)
 unfolding learned
 learned_items x number key dentry h = record { apart = h.apart; below = h.below }
@@ -117,6 +130,8 @@ message_items x point (message.FetchGot number key what) h = pending_items x poi
 message_items x point (message.Lock operation keys) h = operation_items x operation (message.Lock operation keys) h
 message_items x point (message.Count operation dir) h = count_items x operation dir h
 message_items x point (message.Commit operation updates) h = commit_items x operation updates h
+message_items x point (message.Block operation name) h = operation_items x operation (message.Block operation name) h
+message_items x point (message.Install operation version rule rows) h = install_items x operation version rule rows h
 message_items x point other h = h
 
 read_items : (x : NodeState) (point : ℕ) (read : Result Message WireFault) → HasItems x → HasItems (take_read x point read).node
@@ -152,9 +167,10 @@ unfolding released
 released_items x number h = record { apart = h.apart; below = h.below }
 
 service_items : (x : NodeState) (m : Message) → HasItems x → HasItems (service_of x m).work.node
-unfolding shutting
+unfolding shutting blocking
 service_items x (message.FetchAsk asker number key) h = h
 service_items x (message.Lock operation keys) h = record { apart = h.apart; below = h.below }
+service_items x (message.Block operation name) h = record { apart = h.apart; below = h.below }
 service_items x other h = h
 
 served_items : (x : NodeState) (item : Item) → HasItems x → HasItems (served x item).node

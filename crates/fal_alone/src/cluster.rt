@@ -53,6 +53,21 @@ fn copy_of(alloc: Global, envelope: &Envelope) -> Result<Envelope, OutOfMemory>
     })
 }
 
+// Lets the nodes go.
+fn discard_nodes(nodes: Vec<Node>) {
+    let _nodes = nodes;
+}
+
+// Lets the clients go.
+fn discard_clients(clients: Vec<Client>) {
+    let _clients = clients;
+}
+
+// Lets the queues go.
+fn discard_queues(queues: Vec<Queue>) {
+    let _queues = queues;
+}
+
 impl Cluster {
     /// A cluster before its first event. Answers want of memory where there is too little.
     pub fn new(alloc: Global, config: Config) -> Result<Cluster, OutOfMemory>
@@ -87,11 +102,15 @@ impl Cluster {
         let Cluster {
             alloc: _,
             book,
-            clients: _clients,
-            nodes: _nodes,
-            coord: _coord,
-            queues: _queues,
+            clients,
+            nodes,
+            coord,
+            queues,
         } = self;
+        coord.discard();
+        discard_nodes(nodes);
+        discard_clients(clients);
+        discard_queues(queues);
         book
     }
 

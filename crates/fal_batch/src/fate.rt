@@ -1,6 +1,6 @@
 ghost use Rattle.std.specs.Prelude.{◌≡◌, IfOk, Some};
 ghost use Rattle.fal_dentry.specs.Seen.{walk_seen};
-ghost use Rattle.fal_batch.specs.Fate.{away_to, fate_at, fate_walked, fate_by, fate, goes_by_parent as by_parent, last_of};
+ghost use Rattle.fal_batch.specs.Fate.{away_to, fate_at, fate_walked, fate_by, fate, goes_by_parent as is_by_parent, last_of};
 ghost use Rattle.fal_batch.specs.Seen.{fate_seen, site_seen};
 
 use crate::keys::is_among;
@@ -62,9 +62,11 @@ fn fate_of_key(
 ) -> Result<Fate, OutOfMemory>
     ensures { IfOk result (λ fate. fate_seen fate ≡ fate_at (site_seen site.now) by_parent parent keys.items last) }
 {
-    let owner = site.table.owner(&last);
-    if by_parent && owner != site.me {
-        return Ok(Fate::Leaves { to: Some(owner) });
+    if by_parent {
+        let owner = site.table.owner(&last);
+        if owner != site.me {
+            return Ok(Fate::Leaves { to: Some(owner) });
+        }
     }
     if is_among(&last, site.locks.shut_keys()) {
         return Ok(Fate::Skips);
@@ -79,8 +81,14 @@ fn fate_of_key(
     })
 }
 
-// What becomes of a call whose walk has ended so.
-fn fate_of_walk(site: &Site<'_>, path: &Path, walk: Walk) -> Result<Fate, OutOfMemory>
+// What becomes of a call whose walk has ended so. The caller has looked whether its last name goes by parent.
+fn fate_of_walk(
+    site: &Site<'_>,
+    by_parent: bool,
+    path: &Path,
+    walk: Walk,
+) -> Result<Fate, OutOfMemory>
+    requires { by_parent ≡ is_by_parent site.now.table.now (last_of path.now) }
     ensures { IfOk result (λ fate. fate_seen fate ≡ fate_walked (site_seen site.now) path.now (walk_seen walk)) }
 {
     match walk {
@@ -97,7 +105,6 @@ fn fate_of_walk(site: &Site<'_>, path: &Path, walk: Walk) -> Result<Fate, OutOfM
             inos: _,
             keys,
         } => {
-            let by_parent = goes_by_parent(site.table, last_name_of(path));
             let last = last_key(site.alloc, &parent, path)?;
             fate_of_key(site, by_parent, parent, keys, last)
         }
@@ -112,14 +119,17 @@ fn fate_of_path(site: &Site<'_>, call: &CallRec, path: &Path) -> Result<Fate, Ou
     if is_blocked(site.blocked, last) {
         return Ok(Fate::Skips);
     }
-    let node = site.table.route(path);
-    if !goes_by_parent(site.table, last) && node != site.me {
-        return Ok(Fate::Leaves {
-            to: leave_to(site.table, call, node),
-        });
+    let by_parent = goes_by_parent(site.table, last);
+    if !by_parent {
+        let node = site.table.route(path);
+        if node != site.me {
+            return Ok(Fate::Leaves {
+                to: leave_to(site.table, call, node),
+            });
+        }
     }
     let walk = site.replica.walk(&call.cred, path, site.locks.shut_keys())?;
-    fate_of_walk(site, path, walk)
+    fate_of_walk(site, by_parent, path, walk)
 }
 
 // What becomes of a call.

@@ -8,9 +8,9 @@ ghost use Rattle.fal_client.specs.Paths.{addressee as addressee_of};
 ghost use Rattle.fal_client.specs.Step.{letter_to as letter_to_of, call_message, part_letter, asks_for};
 
 use crate::paths::addressee;
-use fal_base::{Actor, Call, CallId, CallRec, Duplicate, OutOfMemory, OutputList, Point};
+use fal_base::{Actor, Call, CallId, OutOfMemory, OutputList, Point};
 use fal_place::Table;
-use fal_wire::{Letter, Message, spelled};
+use fal_wire::{Letter, Message, spelled, spelled_call};
 use std::alloc::Global;
 
 // A client commits nothing, so its letters stand at the point of the event.
@@ -24,24 +24,21 @@ fn letter_to(to: Actor, message: Message) -> Letter
     }
 }
 
-// The call, to whom the table says.
-fn call_letters(
+// The record of the call, to whom the table says.
+fn call_outputs(
     alloc: Global,
     id: CallId,
     table: &Table,
     call: &Call,
-) -> Result<Vec<Letter>, OutOfMemory>
-    ensures { IfOk result (λ letters. letters.items ≡ letter_to_of (addressee_of table.now call.now.op) (call_message id table.now.version call.now) ∷ []) }
+) -> Result<OutputList, OutOfMemory>
+    requires { Fits (call_message id table.now.version call.now) }
+    ensures { IfOk result (λ sent. sent ≡ output_of (letter_to_of (addressee_of table.now call.now.op) (call_message id table.now.version call.now)) ∷ []) }
 {
-    let mut letters = Vec::new(alloc);
-    let message = Message::Call(CallRec {
-        id,
-        cred: call.cred,
-        version: table.version(),
-        op: call.op.copy()?,
-    });
-    letters.push(letter_to(addressee(table, &call.op), message))?;
-    Ok(letters)
+    let to = addressee(table, &call.op);
+    let output = spelled_call(alloc, to, Point::Here(0), &id, table.version(), call)?;
+    let mut sent = OutputList::new(alloc);
+    sent.push(output)?;
+    Ok(sent)
 }
 
 // What asks each of so many nodes for its part of a listing.
@@ -62,30 +59,23 @@ fn part_letters(
     Ok(letters)
 }
 
-// What asks for a call by the table; or, where its directory is known, what asks each node for its part.
-fn ask_letters(
+// The records that ask each of so many nodes for its part.
+fn part_outputs(
     alloc: Global,
     id: CallId,
-    table: &Table,
+    version: u32,
     nodes: u8,
-    call: &Call,
-    dir: Option<u64>,
-) -> Result<Vec<Letter>, OutOfMemory>
-    ensures { IfOk result (λ letters. letters.items ≡ asks_for id table.now nodes call.now dir) }
+    dir: u64,
+) -> Result<OutputList, OutOfMemory>
+    requires { All (λ letter. Fits letter.message) (map (part_letter id version dir) (range_with_len 0 nodes)) }
+    ensures { IfOk result (λ sent. sent ≡ map output_of (map (part_letter id version dir) (range_with_len 0 nodes))) }
 {
-    match dir {
-        None => {
-            let letters = call_letters(alloc, id, table, call)?;
-            Ok(letters)
-        }
-        Some(dir) => {
-            let letters = part_letters(alloc, id, table.version(), nodes, dir)?;
-            Ok(letters)
-        }
-    }
+    let letters = part_letters(alloc, id, version, nodes, dir)?;
+    let sent = spelled(alloc, &letters)?;
+    Ok(sent)
 }
 
-// The records of what asks for a call.
+// The records of what asks for a call by the table; or, where its directory is known, of what asks each node for its part.
 pub fn ask_outputs(
     alloc: Global,
     id: CallId,
@@ -97,7 +87,14 @@ pub fn ask_outputs(
     requires { All (λ letter. Fits letter.message) (asks_for id table.now nodes call.now dir) }
     ensures { IfOk result (λ sent. sent ≡ map output_of (asks_for id table.now nodes call.now dir)) }
 {
-    let letters = ask_letters(alloc, id, table, nodes, call, dir)?;
-    let sent = spelled(alloc, &letters)?;
-    Ok(sent)
+    match dir {
+        None => {
+            let sent = call_outputs(alloc, id, table, call)?;
+            Ok(sent)
+        }
+        Some(dir) => {
+            let sent = part_outputs(alloc, id, table.version(), nodes, dir)?;
+            Ok(sent)
+        }
+    }
 }

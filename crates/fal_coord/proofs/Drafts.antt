@@ -20,7 +20,7 @@ pub letters_fit : (coord : CoordState) (work : Option Work) (draft : Draft) → 
 letters_fit coord None draft does within = absurd does
 letters_fit coord (Some work) draft does within = subst (λ ls. All (λ (l : Letter). Fits l.message) ls) (sym does.sent) (within work refl).records
 
-step_made : (s : SeenCoord) (work : Option Work) (draft : Draft) (prepared : Prepared) → DoesOf s.state work (Some draft) → ForSome work IsInRange → ForSome work (λ w. IsSound w.coord.waiting w.coord.stage) → HasRoom s.room draft.patch
+step_made : (s : SeenCoord) (work : Option Work) (draft : Draft) (prepared : Prepared) → DoesOf s.state work (Some draft) → ForSome work IsInRange → ForSome work (λ w. IsSound w.coord.table w.coord.waiting w.coord.stage) → HasRoom s.room draft.patch
     → prepared.patch ≡ draft.patch → prepared.outputs.sent ≡ map output_of draft.letters.items → prepared.outputs.notes ≡ draft.notes.items → IsStepOf s work prepared
 step_made s None draft prepared does within sound room patch sent notes = absurd does
 step_made s (Some work) draft prepared does within sound room patch sent notes = record {
@@ -31,7 +31,7 @@ step_made s (Some work) draft prepared does within sound room patch sent notes =
 }
 
 -- where there is a draft, it becomes the step
-pub step_for : (s : SeenCoord) (coord : CoordState) (event : CoordEvent) (draft : Draft) (prepared : Prepared) → s.state ≡ coord → IsSound s.state.waiting s.state.stage → DoesOf coord (coord_step coord event) (Some draft) → CanMake coord event
+pub step_for : (s : SeenCoord) (coord : CoordState) (event : CoordEvent) (draft : Draft) (prepared : Prepared) → s.state ≡ coord → IsSound s.state.table s.state.waiting s.state.stage → DoesOf coord (coord_step coord event) (Some draft) → CanMake coord event
     → HasRoom s.room draft.patch → prepared.patch ≡ draft.patch → prepared.outputs.sent ≡ map output_of draft.letters.items → prepared.outputs.notes ≡ draft.notes.items
     → IsStepFor s event prepared
 step_for s coord event draft prepared same sound does within room patch sent notes =

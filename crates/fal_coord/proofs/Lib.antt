@@ -1,3 +1,4 @@
+pub mod Blocked
 pub mod Counts
 pub mod Deciding
 pub mod Drafts

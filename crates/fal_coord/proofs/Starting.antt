@@ -1,28 +1,31 @@
 -- How a call goes on is what its step makes of it.
-use Rattle.std.proofs.Common.{◌≡◌, ◌+◌, true, false, cond, List, [], ◌∷◌, Some, None, refl, sym, ap, ◌∙◌, subst}
+use Rattle.std.proofs.Common.{◌≡◌, ◌+◌, true, false, cond, List, [], ◌∷◌, Option, Some, None, refl, sym, ap, ◌∙◌, subst}
 use Rattle.std.specs.Prelude.{◌<◌, ◌^◌, IsTrue, slice_get}
 use Rattle.std.specs.Option.{ForSome}
 use Rattle.fal_base.specs.declared.call.CallRec.{CallRec}
 use Rattle.fal_base.specs.declared.event.Point.TheVariants.{Here}
 use Rattle.fal_base.specs.declared.inode.Dentry.{Dentry}
 use Rattle.fal_base.specs.declared.key.Key.{Key}
+use Rattle.fal_base.specs.declared.reply.Errno.{Errno}
 use Rattle.fal_base.specs.declared.reply.Errno.TheVariants.{Ebusy}
 use Rattle.fal_base.specs.declared.reply.Reply.TheVariants.{Fail}
+use Rattle.fal_place.specs.Placement.{Placing}
 use Rattle.fal_wire.specs.Letters.{reply_letter}
 use Rattle.fal_coord.specs.declared.draft.Draft.{Draft}
 use Rattle.fal_coord.specs.declared.patch.Next.TheVariants as next
 use Rattle.fal_coord.specs.declared.patch.Patch.TheVariants as patch
 use Rattle.fal_coord.specs.declared.paths_walk.PathsWalk.{PathsWalk}
 use Rattle.fal_coord.specs.declared.paths_walk.PathsWalk.TheVariants.{Stopped, Lacking, Ready}
-use Rattle.fal_coord.specs.Begin.{asking, locking, given_up, walked_as, walk_step, start, start_first, started}
+use Rattle.fal_coord.specs.Begin.{asking, locking, given_up, walked_as, walk_step, placing_by, begun_by, start, start_first, started}
 use Rattle.fal_coord.specs.Hear.{learned}
-use Rattle.fal_coord.specs.Onward.{walk_of, next_of, walk_letters, start_next, start_letters}
+use Rattle.fal_coord.specs.Onward.{walk_of, next_of, walk_letters, place_next, place_letters, begun_next, begun_letters, start_next, start_letters}
 use Rattle.fal_coord.specs.Patch.{asked_after, stage_after, walked_call, with_next, started_with, walked_with, patched}
+use Rattle.fal_coord.specs.Place.{place_refusal, blocking}
 use Rattle.fal_coord.specs.Ready.{Does, DoesOf}
 use Rattle.fal_coord.specs.Sound.{are_operations}
 use Rattle.fal_coord.specs.State.{CoordState}
 use Rattle.fal_coord.specs.Step.{IsInRange}
-use Rattle.fal_coord.specs.Walks.{is_busy, is_operation}
+use Rattle.fal_coord.specs.Walks.{is_busy, is_operation, placing_of}
 use Rattle.fal_coord.proofs.Sound.{first_operation}
 
 -- ---- a walk's end
@@ -54,28 +57,56 @@ module _ (coord : CoordState) (calls : List CallRec) (call : CallRec) where
   first_sent (Lacking key) = refl
   first_sent (Ready walks) = refl
 
+  placing_coord : (placing : Placing) (refused : Option Errno) → (placing_by (started coord calls) call placing refused).coord ≡ with_next (started coord calls) call (place_next coord.table.nodes refused)
+  unfolding started blocking asked_after stage_after
+  placing_coord placing None = refl
+  placing_coord placing (Some errno) = refl
+
+  placing_sent : (placing : Placing) (refused : Option Errno) → (placing_by (started coord calls) call placing refused).sent ≡ place_letters coord call placing refused
+  unfolding started blocking
+  placing_sent placing None = refl
+  placing_sent placing (Some errno) = refl
+
+  placing_notes : (placing : Placing) (refused : Option Errno) → (placing_by (started coord calls) call placing refused).notes ≡ []
+  unfolding blocking
+  placing_notes placing None = refl
+  placing_notes placing (Some errno) = refl
+
+  begun_coord : (placing : Option Placing) → (begun_by (started coord calls) call placing).coord ≡ with_next (started coord calls) call (begun_next coord call placing)
+  unfolding started walk_step
+  begun_coord None = walked_coord (started coord calls) call (walk_of coord None call)
+  begun_coord (Some placing) = placing_coord placing (place_refusal coord.table call.cred placing)
+
+  begun_sent : (placing : Option Placing) → (begun_by (started coord calls) call placing).sent ≡ begun_letters coord call placing
+  unfolding started walk_step
+  begun_sent None = walked_sent (started coord calls) call (walk_of coord None call) ∙ first_sent (walk_of coord None call)
+  begun_sent (Some placing) = placing_sent placing (place_refusal coord.table call.cred placing)
+
+  begun_notes : (placing : Option Placing) → (begun_by (started coord calls) call placing).notes ≡ []
+  unfolding started walk_step
+  begun_notes None = walked_notes (started coord calls) call (walk_of coord None call)
+  begun_notes (Some placing) = placing_notes placing (place_refusal coord.table call.cred placing)
+
   start_coord : (start (started coord calls) call).coord ≡ with_next (started coord calls) call (start_next coord call)
-  unfolding started walk_step asked_after stage_after
+  unfolding asked_after stage_after
   start_coord =
-      elim (is_busy call.op) as (λ b. (cond b (given_up (started coord calls) call (Here 0) Ebusy) (walk_step (started coord calls) call)).coord ≡ with_next (started coord calls) call (cond b next.Rest (next_of coord.table.nodes call.op (walk_of coord None call)))) [
+      elim (is_busy call.op) as (λ b. (cond b (given_up (started coord calls) call (Here 0) Ebusy) (begun_by (started coord calls) call (placing_of call.op))).coord ≡ with_next (started coord calls) call (cond b next.Rest (begun_next coord call (placing_of call.op)))) [
         | true ↦ refl
-        | false ↦ walked_coord (started coord calls) call (walk_of coord None call)
+        | false ↦ begun_coord (placing_of call.op)
       ]
 
   start_sent : (start (started coord calls) call).sent ≡ start_letters coord call
-  unfolding started walk_step
   start_sent =
-      elim (is_busy call.op) as (λ b. (cond b (given_up (started coord calls) call (Here 0) Ebusy) (walk_step (started coord calls) call)).sent ≡ cond b (reply_letter call (Here 0) (Fail Ebusy) ∷ []) (walk_letters coord (coord.operation + 1) call (walk_of coord None call))) [
+      elim (is_busy call.op) as (λ b. (cond b (given_up (started coord calls) call (Here 0) Ebusy) (begun_by (started coord calls) call (placing_of call.op))).sent ≡ cond b (reply_letter call (Here 0) (Fail Ebusy) ∷ []) (begun_letters coord call (placing_of call.op))) [
         | true ↦ refl
-        | false ↦ walked_sent (started coord calls) call (walk_of coord None call) ∙ first_sent (walk_of coord None call)
+        | false ↦ begun_sent (placing_of call.op)
       ]
 
   start_notes : (start (started coord calls) call).notes ≡ []
-  unfolding started walk_step
   start_notes =
-      elim (is_busy call.op) as (λ b. (cond b (given_up (started coord calls) call (Here 0) Ebusy) (walk_step (started coord calls) call)).notes ≡ []) [
+      elim (is_busy call.op) as (λ b. (cond b (given_up (started coord calls) call (Here 0) Ebusy) (begun_by (started coord calls) call (placing_of call.op))).notes ≡ []) [
         | true ↦ refl
-        | false ↦ walked_notes (started coord calls) call (walk_of coord None call)
+        | false ↦ begun_notes (placing_of call.op)
       ]
 
   start_operation : (start (started coord calls) call).coord.operation ≡ coord.operation + 1

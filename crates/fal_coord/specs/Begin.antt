@@ -8,7 +8,7 @@ use Rattle.fal_base.specs.declared.key.Key.{Key}
 use Rattle.fal_base.specs.declared.reply.Errno.{Errno}
 use Rattle.fal_base.specs.declared.reply.Errno.TheVariants.{Ebusy}
 use Rattle.fal_base.specs.declared.reply.Reply.TheVariants.{Fail}
-use Rattle.fal_place.specs.Placement.{owner}
+use Rattle.fal_place.specs.Placement.{Placing, owner}
 use Rattle.fal_wire.specs.declared.letter.Letter.{Letter}
 use Rattle.fal_wire.specs.declared.message.Message.TheVariants as message
 use Rattle.fal_wire.specs.Letters.{letter, reply_letter}
@@ -16,10 +16,11 @@ use Rattle.fal_coord.specs.declared.paths_walk.PathsWalk.{PathsWalk}
 use Rattle.fal_coord.specs.declared.paths_walk.PathsWalk.TheVariants.{Stopped, Lacking, Ready}
 use Rattle.fal_coord.specs.declared.stage.PathWalk.{PathWalk}
 use Rattle.fal_coord.specs.declared.stage.Stage.{Stage}
-use Rattle.fal_coord.specs.declared.stage.Stage.TheVariants.{Idle, Walk, Lock, Count, Finish}
+use Rattle.fal_coord.specs.declared.stage.Stage.TheVariants.{Idle, Walk, Lock, Count, Finish, Block, Install}
 use Rattle.fal_coord.specs.Nodes.{numbers_below, to_nodes}
+use Rattle.fal_coord.specs.Place.{place_refusal, blocking}
 use Rattle.fal_coord.specs.State.{CoordState, Work, at_stage}
-use Rattle.fal_coord.specs.Walks.{walked_paths, is_busy, walk_paths, with_ends}
+use Rattle.fal_coord.specs.Walks.{walked_paths, is_busy, placing_of, walk_paths, with_ends}
 
 -- the call is answered with this errno, and no operation is under way any more
 abbrev pub given_up : CoordState → CallRec → Point → Errno → Work
@@ -55,9 +56,19 @@ walked_as coord call (Ready walks) = locking coord call (with_ends [] (walked_pa
 unfoldable pub walk_step : CoordState → CallRec → Work
 walk_step coord call = walked_as coord call (walk_paths coord.replica call.cred (walked_paths call.op))
 
+-- a placement is refused, or every node is to give the rows of its name away
+abbrev pub placing_by : CoordState → CallRec → Placing → Option Errno → Work
+placing_by coord call placing None = blocking coord call placing.name
+placing_by coord call placing (Some errno) = given_up coord call (Here 0) errno
+
+-- a call that places no name has its paths walked
+abbrev pub begun_by : CoordState → CallRec → Option Placing → Work
+begun_by coord call None = walk_step coord call
+begun_by coord call (Some placing) = placing_by coord call placing (place_refusal coord.table call.cred placing)
+
 -- a rmdir or rename of the root is busy (POSIX.1-2017, XSH: rmdir and rename), before any walk
 abbrev pub start : CoordState → CallRec → Work
-start coord call = if is_busy call.op then given_up coord call (Here 0) Ebusy else walk_step coord call
+start coord call = if is_busy call.op then given_up coord call (Here 0) Ebusy else begun_by coord call (placing_of call.op)
 
 -- a new operation, for the first of the calls that wait
 unfoldable pub started : CoordState → List CallRec → CoordState
@@ -74,3 +85,5 @@ begin coord (Walk call number key) = None
 begin coord (Lock operation missing rows) = None
 begin coord (Count operation rows dir updates missing counts) = None
 begin coord (Finish keys updates missing) = None
+begin coord (Block call missing rows) = None
+begin coord (Install call missing) = None

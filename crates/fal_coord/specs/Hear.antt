@@ -6,6 +6,7 @@ use Rattle.fal_base.specs.declared.event.Point.TheVariants.{Carried}
 use Rattle.fal_base.specs.declared.inode.Dentry.{Dentry}
 use Rattle.fal_base.specs.declared.key.Key.{Key}
 use Rattle.fal_base.specs.declared.reply.Errno.TheVariants.{Enoent, Enotdir}
+use Rattle.fal_base.specs.declared.row.NamedRow.{NamedRow}
 use Rattle.fal_base.specs.declared.row.Update.{Update}
 use Rattle.fal_base.specs.Maps.{with_value}
 use Rattle.fal_base.specs.Marks.{is_newer, last_mark, mark_of, with_mark}
@@ -17,11 +18,12 @@ use Rattle.fal_wire.specs.declared.message.Message.TheVariants as message
 use Rattle.fal_wire.specs.Messages.{reading}
 use Rattle.fal_coord.specs.declared.stage.Operation.{Operation}
 use Rattle.fal_coord.specs.declared.stage.Stage.{Stage}
-use Rattle.fal_coord.specs.declared.stage.Stage.TheVariants.{Idle, Walk, Lock, Count, Finish}
+use Rattle.fal_coord.specs.declared.stage.Stage.TheVariants.{Idle, Walk, Lock, Count, Finish, Block, Install}
 use Rattle.fal_coord.specs.Begin.{given_up, walk_step}
 use Rattle.fal_coord.specs.Decide.{judged_work, verdict_on}
 use Rattle.fal_coord.specs.Judged.{counted_of}
 use Rattle.fal_coord.specs.Nodes.{is_missing, without_node}
+use Rattle.fal_coord.specs.Place.{placed}
 use Rattle.fal_coord.specs.State.{CoordState, Work, begun, at_stage}
 use Rattle.fal_coord.specs.Walks.{is_operation}
 
@@ -86,6 +88,26 @@ take_done coord number node (Finish keys updates missing) =
     if (number == coord.operation) && is_missing node missing then at_stage coord (finish_at keys updates (without_node node missing)) else coord
 take_done coord number node other = coord
 
+-- with the last node, the name is placed
+abbrev pub block_heard : CoordState → CallRec → List NamedRow → List ℕ → Work
+block_heard coord call rows [] = placed coord call rows
+block_heard coord call rows (node ∷ missing) = begun (at_stage coord (Block call (node ∷ missing) rows))
+
+abbrev pub take_blocked : CoordState → ℕ → ℕ → List NamedRow → Stage → Work
+take_blocked coord number node told (Block call missing rows) =
+    if (number == coord.operation) && is_missing node missing then block_heard coord call (rows ++ told) (without_node node missing) else begun coord
+take_blocked coord number node told other = begun coord
+
+-- with the last node the operation is at its end
+abbrev pub install_at : CallRec → List ℕ → Stage
+install_at call [] = Idle
+install_at call (node ∷ missing) = Install call (node ∷ missing)
+
+abbrev pub take_installed : CoordState → ℕ → ℕ → Stage → CoordState
+take_installed coord number node (Install call missing) =
+    if (number == coord.operation) && is_missing node missing then at_stage coord (install_at call (without_node node missing)) else coord
+take_installed coord number node other = coord
+
 -- ---- any record
 
 -- by the kind of the record
@@ -105,9 +127,9 @@ take_message coord point (message.Lock number keys) = begun coord
 take_message coord point (message.Count number dir) = begun coord
 take_message coord point (message.Commit number updates) = begun coord
 take_message coord point (message.Block number name) = begun coord
-take_message coord point (message.Blocked number from rows) = begun coord
+take_message coord point (message.Blocked number node rows) = take_blocked coord number node rows coord.stage
 take_message coord point (message.Install number version rule rows) = begun coord
-take_message coord point (message.Installed number from) = begun coord
+take_message coord point (message.Installed number node) = begun (take_installed coord number node coord.stage)
 
 -- bytes that are no record change nothing
 abbrev pub take_read : CoordState → ℕ → Result Message WireFault → Work

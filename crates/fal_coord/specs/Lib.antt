@@ -7,6 +7,7 @@ pub mod Known
 pub mod Nodes
 pub mod Onward
 pub mod Patch
+pub mod Place
 pub mod Ready
 pub mod Sound
 pub mod State

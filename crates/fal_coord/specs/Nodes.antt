@@ -31,4 +31,5 @@ abbrev pub is_order : Message → Bool
 is_order (order.Lock number keys) = true
 is_order (order.Count number dir) = true
 is_order (order.Commit number updates) = true
+is_order (order.Block number name) = true
 is_order other = false

@@ -2,6 +2,7 @@
 use Rattle.std.specs.Prelude.{ℕ, ◌+◌, List, [], Option, Some, None, drop, slice_get}
 use Rattle.fal_base.specs.declared.call.CallRec.{CallRec}
 use Rattle.fal_base.specs.declared.key.Key.{Key}
+use Rattle.fal_base.specs.declared.row.NamedRow.{NamedRow}
 use Rattle.fal_base.specs.declared.row.Update.{Update}
 use Rattle.fal_dentry.specs.Walk.{without_keys}
 use Rattle.fal_coord.specs.declared.patch.Next.{Next}
@@ -10,7 +11,7 @@ use Rattle.fal_coord.specs.declared.patch.Patch.{Patch}
 use Rattle.fal_coord.specs.declared.patch.Patch.TheVariants as patch
 use Rattle.fal_coord.specs.declared.stage.Operation.{Operation}
 use Rattle.fal_coord.specs.declared.stage.Stage.{Stage}
-use Rattle.fal_coord.specs.declared.stage.Stage.TheVariants.{Idle, Walk, Lock, Count, Finish}
+use Rattle.fal_coord.specs.declared.stage.Stage.TheVariants.{Idle, Walk, Lock, Count, Finish, Block, Install}
 use Rattle.fal_coord.specs.Begin.{started}
 use Rattle.fal_coord.specs.Hear.{taken, learned}
 use Rattle.fal_coord.specs.State.{CoordState, at_stage}
@@ -46,11 +47,13 @@ unfoldable pub asked_after : ℕ → Next → ℕ
 asked_after asked next.Rest = asked
 asked_after asked (next.Ask key) = asked + 1
 asked_after asked (next.Lock keys walks missing) = asked
+asked_after asked (next.Block missing) = asked
 
 unfoldable pub stage_after : ℕ → CallRec → Next → Stage
 stage_after asked call next.Rest = Idle
 stage_after asked call (next.Ask key) = Walk call asked key
 stage_after asked call (next.Lock keys walks missing) = Lock (record { call = call; keys = keys; walks = walks }) missing []
+stage_after asked call (next.Block missing) = Block call missing []
 
 abbrev pub with_next : CoordState → CallRec → Next → CoordState
 with_next coord call then = record coord { asked = asked_after coord.asked then; stage = stage_after coord.asked call then }
@@ -92,6 +95,26 @@ unfoldable pub counted_stage : List ℕ → List ℕ → Stage → Stage
 counted_stage missing counts (Count operation rows dir updates before heard) = Count operation rows dir updates missing counts
 counted_stage missing counts other = Idle
 
+-- ---- how a placement goes on. A stage that has none ends
+
+-- the call that places a name
+unfoldable pub placing_call : Stage → Option CallRec
+placing_call (Block call missing rows) = Some call
+placing_call (Install call missing) = Some call
+placing_call other = None
+
+-- with these still to give their rows away, and these rows
+unfoldable pub blocked_stage : List ℕ → List NamedRow → Option CallRec → Stage
+blocked_stage missing rows None = Idle
+blocked_stage missing rows (Some call) = Block call missing rows
+
+-- with these still to take theirs
+unfoldable pub installed_stage : List ℕ → Option CallRec → Stage
+installed_stage missing None = Idle
+installed_stage missing (Some call) = Install call missing
+
+-- ---- the end of an operation
+
 unfoldable pub finished_stage : List ℕ → Stage → Stage
 finished_stage missing (Finish keys updates before) = Finish keys updates missing
 finished_stage missing other = Idle
@@ -112,4 +135,7 @@ patched coord (patch.Count rows dir updates missing) = at_stage coord (counting_
 patched coord (patch.Counted missing counts) = at_stage coord (counted_stage missing counts coord.stage)
 patched coord (patch.Decide updates missing) = decided_with coord updates missing (operation_at coord.stage)
 patched coord (patch.Finish missing) = at_stage coord (finished_stage missing coord.stage)
+patched coord (patch.Block missing rows) = at_stage coord (blocked_stage missing rows (placing_call coord.stage))
+patched coord (patch.Place table missing) = record coord { table = table; stage = installed_stage missing (placing_call coord.stage) }
+patched coord (patch.Install missing) = at_stage coord (installed_stage missing (placing_call coord.stage))
 patched coord patch.Rest = at_stage coord Idle

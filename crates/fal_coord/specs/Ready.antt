@@ -19,7 +19,7 @@ HasRoom room other = Unit {0}
 
 -- the coordinator after it is sound, and no counter of it is past the end of its type
 pub record IsLegal (coord : CoordState) : Type 0 where
-  pub sound : IsSound coord.waiting coord.stage
+  pub sound : IsSound coord.table coord.waiting coord.stage
   pub operation : coord.operation < 2 ^ 32
   pub asked : coord.asked < 2 ^ 64
 

@@ -7,7 +7,7 @@ use Rattle.fal_dentry.specs.Walk.{Dentries}
 use Rattle.fal_place.specs.Placement.{Placement, opening_table}
 use Rattle.fal_wire.specs.declared.letter.Letter.{Letter}
 use Rattle.fal_coord.specs.declared.stage.Stage.{Stage}
-use Rattle.fal_coord.specs.declared.stage.Stage.TheVariants.{Idle, Walk, Lock, Count, Finish}
+use Rattle.fal_coord.specs.declared.stage.Stage.TheVariants.{Idle, Walk, Lock, Count, Finish, Block, Install}
 
 -- its table and replica; the calls that wait, in the order of their arrival, and the last mark of each client; the number of the last
 -- operation, how many fetches it has numbered, and what it is at
@@ -31,6 +31,8 @@ is_idle (Walk call number key) = false
 is_idle (Lock operation missing rows) = false
 is_idle (Count operation rows dir updates missing counts) = false
 is_idle (Finish keys updates missing) = false
+is_idle (Block call missing rows) = false
+is_idle (Install call missing) = false
 
 -- no call waits, and no operation is under way
 abbrev pub is_quiet : CoordState → Bool

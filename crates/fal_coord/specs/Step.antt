@@ -26,6 +26,7 @@ pub record IsInRange (work : Work) : Type 0 where
   pub records : All (λ letter. Fits letter.message) work.sent
   pub operation : work.coord.operation < 2 ^ 32
   pub asked : work.coord.asked < 2 ^ 64
+  pub version : work.coord.table.version < 2 ^ 32
 
 -- what the event makes, where it is enabled, is within the ranges
 abbrev pub CanMake : CoordState → CoordEvent → Type 0

@@ -10,6 +10,7 @@ use Rattle.fal_base.specs.Answer.{is_root}
 use Rattle.fal_dentry.specs.TreeWalk.{last_key, last_name}
 use Rattle.fal_dentry.specs.Walk as replica
 use Rattle.fal_dentry.specs.Walk.{Dentries, ReplicaWalk, replica_walk, is_among}
+use Rattle.fal_place.specs.Placement.{Placing}
 use Rattle.fal_coord.specs.declared.paths_walk.PathsWalk.{PathsWalk}
 use Rattle.fal_coord.specs.declared.paths_walk.PathsWalk.TheVariants.{Stopped, Lacking, Ready}
 use Rattle.fal_coord.specs.declared.stage.PathWalk.{PathWalk}
@@ -24,9 +25,18 @@ operation_paths (op.Rmdir (Good path)) = Some (path ∷ [])
 operation_paths (op.Rename (Good old) (Good new)) = Some (old ∷ new ∷ [])
 operation_paths other = None
 
+-- whether it is an operation whose paths are walked
+abbrev pub is_walking : Op → Bool
+is_walking call = is_some (operation_paths call)
+
+-- the name that a call places, and its rule
+abbrev pub placing_of : Op → Option Placing
+placing_of (op.Place name rule) = Some (record { name = name; rule = rule })
+placing_of other = None
+
 -- whether the coordinator carries the call out
 abbrev pub is_operation : Op → Bool
-is_operation call = is_some (operation_paths call)
+is_operation call = is_walking call || is_some (placing_of call)
 
 abbrev pub walked_paths : Op → List (List (List ℕ))
 walked_paths call = unwrap_or (operation_paths call) []

@@ -2,7 +2,7 @@
 
 ghost use Rattle.std.specs.Prelude.{◌≡◌, ◌+◌, ◌<◌, ◌≤◌, ◌^◌, [], ◌∷◌, ◌++◌, drop, slice_get, vec_len, vec_capacity};
 ghost use Rattle.fal_coord.specs.Hear.{taken, learned};
-ghost use Rattle.fal_coord.specs.Patch.{asked_after, stage_after, started_with, walked_with, walked_call, operation_at as operation_of, locked_stage as locked_stage_of, counting_stage as counting_stage_of, decided_stage as decided_stage_of, locked_keys, counted_stage as counted_stage_of, finished_stage as finished_stage_of, decided_with, patched};
+ghost use Rattle.fal_coord.specs.Patch.{asked_after, stage_after, started_with, walked_with, walked_call, operation_at as operation_of, locked_stage as locked_stage_of, counting_stage as counting_stage_of, decided_stage as decided_stage_of, locked_keys, counted_stage as counted_stage_of, finished_stage as finished_stage_of, placing_call, blocked_stage as blocked_stage_of, installed_stage as installed_stage_of, decided_with, patched};
 ghost use Rattle.fal_coord.specs.Ready.{IsLegal, CanPatch, CanApply, after};
 ghost use Rattle.fal_coord.specs.State.{at_stage};
 ghost use Rattle.fal_dentry.specs.Walk.{without_keys};
@@ -11,8 +11,9 @@ ghost use Rattle.fal_coord.specs.declared.stage.Stage.TheVariants as stage;
 use crate::coord::Coord;
 use crate::patch::{Next, Patch, Prepared};
 use crate::stage::{Operation, Stage};
-use fal_base::{CallRec, Dentry, Items, Key, Outputs, Update, put_mark};
+use fal_base::{CallRec, Dentry, Items, Key, NamedRow, Outputs, Update, put_mark};
 use fal_dentry::Replica;
+use fal_place::Table;
 use std::alloc::Global;
 
 // Lets records and notes go.
@@ -53,6 +54,11 @@ fn stage_of(alloc: Global, asked: u64, call: CallRec, next: Next) -> Stage
             missing,
         } => Stage::Lock {
             operation: Operation { call, keys, walks },
+            missing,
+            rows: Items::new(alloc),
+        },
+        Next::Block(missing) => Stage::Block {
+            call,
             missing,
             rows: Items::new(alloc),
         },
@@ -169,6 +175,28 @@ impl Coord {
         self.stage.finish(missing);
     }
 
+    fn block(&mut self, missing: Items<u8>, rows: Items<NamedRow>)
+        requires { IsLegal (at_stage self.old.state (blocked_stage_of missing rows (placing_call self.old.state.stage))) }
+        ensures { self.new.state ≡ at_stage self.old.state (blocked_stage_of missing rows (placing_call self.old.state.stage)) }
+    {
+        self.stage.block(missing, rows);
+    }
+
+    fn place(&mut self, table: Table, missing: Items<u8>)
+        requires { IsLegal (record self.old.state { table = table; stage = installed_stage_of missing (placing_call self.old.state.stage) }) }
+        ensures { self.new.state ≡ record self.old.state { table = table; stage = installed_stage_of missing (placing_call self.old.state.stage) } }
+    {
+        self.table = table;
+        self.stage.install(missing);
+    }
+
+    fn install(&mut self, missing: Items<u8>)
+        requires { IsLegal (at_stage self.old.state (installed_stage_of missing (placing_call self.old.state.stage))) }
+        ensures { self.new.state ≡ at_stage self.old.state (installed_stage_of missing (placing_call self.old.state.stage)) }
+    {
+        self.stage.install(missing);
+    }
+
     fn rest(&mut self)
         ensures { self.new.state ≡ at_stage self.old.state stage.Idle }
     {
@@ -195,6 +223,9 @@ impl Coord {
             Patch::Counted { missing, counts } => self.hear_count(missing, counts),
             Patch::Decide { updates, missing } => self.decide(updates, missing),
             Patch::Finish(missing) => self.finish(missing),
+            Patch::Block { missing, rows } => self.block(missing, rows),
+            Patch::Place { table, missing } => self.place(table, missing),
+            Patch::Install(missing) => self.install(missing),
             Patch::Rest => self.rest(),
         }
     }

@@ -24,6 +24,7 @@ use crate::nodes::{numbers_below, to_nodes};
 use crate::patch::{Next, Patch};
 use crate::paths::is_busy;
 use crate::paths_walk::PathsWalk;
+use crate::place::place_step;
 use crate::stage::{PathWalk, Stage};
 use crate::walks::{Learned, end_keys, walk_call};
 use fal_base::{Actor, CallRec, Duplicate, Errno, Items, Key, Op, OutOfMemory, Point, Reply};
@@ -63,7 +64,7 @@ pub(crate) fn refusal_letters(
 }
 
 // The call is answered with the errno.
-fn give_up(alloc: Global, call: &CallRec, errno: Errno) -> Result<Onward, OutOfMemory>
+pub(crate) fn give_up(alloc: Global, call: &CallRec, errno: Errno) -> Result<Onward, OutOfMemory>
     ensures next { IfOk result (λ onward. onward.next ≡ next.Rest) }
     ensures letters { IfOk result (λ onward. onward.letters.items ≡ reply_letter_of call.now (point.Here 0) (reply.Fail errno) ∷ []) }
 {
@@ -182,9 +183,11 @@ fn start(coord: &Coord, call: &CallRec) -> Result<Onward, OutOfMemory>
     ensures letters { IfOk result (λ onward. onward.letters.items ≡ start_letters coord.now.state call.now) }
 {
     if is_busy(&call.op) {
-        give_up(coord.alloc, call, Errno::Ebusy)
-    } else {
-        walk_step(coord, coord.operation + 1, &None, call)
+        return give_up(coord.alloc, call, Errno::Ebusy);
+    }
+    match &call.op {
+        Op::Place { name, rule } => place_step(coord, call, name, *rule),
+        _ => walk_step(coord, coord.operation + 1, &None, call),
     }
 }
 

@@ -12,7 +12,7 @@ use std::alloc::Global;
 use std::marker::Model;
 
 /// The coordinator of a cluster, with room for some more directories and calls than it has. It carries out chmod and chown of directories,
-/// rmdir and rename, one after the other.
+/// rmdir, rename and place, one after the other.
 #[derive(Debug, Drop)]
 pub struct Coord {
     pub(crate) alloc: Global,
@@ -49,7 +49,7 @@ impl Model for Coord {
       };
     } };
 
-    ghost invariant = { λ c. IsSound c.waiting.items c.stage };
+    ghost invariant = { λ c. IsSound c.table c.waiting.items c.stage };
 }
 
 // Whether no operation is under way.
@@ -80,6 +80,21 @@ impl Coord {
             asked: 0,
             stage: Current::idle(),
         }
+    }
+
+    /// Lets the coordinator go. Who keeps one does not see its stage so.
+    pub fn discard(self) {
+        let Coord {
+            alloc: _,
+            table: _table,
+            replica: _replica,
+            waiting: _waiting,
+            last: _last,
+            operation: _,
+            asked: _,
+            stage,
+        } = self;
+        stage.discard();
     }
 
     /// Where keys live, as the coordinator knows. Takes no memory.

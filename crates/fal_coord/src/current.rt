@@ -1,11 +1,11 @@
 //! What the coordinator is at, as one value that changes in place.
 
 ghost use Rattle.std.specs.Prelude.{◌≡◌, ◌+◌, []};
-ghost use Rattle.fal_coord.specs.Patch.{walked_call, operation_at as operation_of, locked_stage as locked_stage_of, counting_stage as counting_stage_of, decided_stage as decided_stage_of, counted_stage as counted_stage_of, finished_stage as finished_stage_of};
+ghost use Rattle.fal_coord.specs.Patch.{walked_call, operation_at as operation_of, locked_stage as locked_stage_of, counting_stage as counting_stage_of, decided_stage as decided_stage_of, counted_stage as counted_stage_of, finished_stage as finished_stage_of, placing_call as placing_call_of, blocked_stage as blocked_stage_of, installed_stage as installed_stage_of};
 ghost use Rattle.fal_coord.specs.declared.stage.Stage.TheVariants as stage;
 
 use crate::stage::{Operation, Stage};
-use fal_base::{CallRec, Items, Key, Update};
+use fal_base::{CallRec, Items, Key, NamedRow, Update};
 use std::alloc::Global;
 use std::marker::Model;
 use std::mem;
@@ -24,6 +24,60 @@ impl Model for Current {
     ghost view = { λ c. c.stage };
 }
 
+// Lets the call go.
+pub(crate) fn discard_call(call: CallRec) {
+    let _call = call;
+}
+
+// Lets the operation go.
+fn discard_operation(operation: Operation) {
+    let Operation {
+        call,
+        keys: _keys,
+        walks: _walks,
+    } = operation;
+    discard_call(call);
+}
+
+// Lets the stage go.
+fn discard_stage(stage: Stage) {
+    match stage {
+        Stage::Idle => {}
+        Stage::Walk {
+            call,
+            number: _,
+            key: _key,
+        } => discard_call(call),
+        Stage::Lock {
+            operation,
+            missing: _missing,
+            rows: _rows,
+        } => discard_operation(operation),
+        Stage::Count {
+            operation,
+            rows: _rows,
+            dir: _,
+            updates: _updates,
+            missing: _missing,
+            counts: _counts,
+        } => discard_operation(operation),
+        Stage::Finish {
+            keys: _keys,
+            updates: _updates,
+            missing: _missing,
+        } => {}
+        Stage::Block {
+            call,
+            missing: _missing,
+            rows: _rows,
+        } => discard_call(call),
+        Stage::Install {
+            call,
+            missing: _missing,
+        } => discard_call(call),
+    }
+}
+
 // The call whose walk waits in the stage.
 #[tactic(auto, unfolding(crate::specs::Patch::walked_call))]
 fn walked_call_of(stage: Stage) -> Option<CallRec>
@@ -35,7 +89,10 @@ fn walked_call_of(stage: Stage) -> Option<CallRec>
             number: _,
             key: _key,
         } => Some(call),
-        _ => None,
+        other => {
+            discard_stage(other);
+            None
+        }
     }
 }
 
@@ -58,7 +115,10 @@ fn operation_at(stage: Stage) -> Option<Operation>
             missing: _missing,
             counts: _counts,
         } => Some(operation),
-        _ => None,
+        other => {
+            discard_stage(other);
+            None
+        }
     }
 }
 
@@ -83,7 +143,10 @@ fn counted_stage(stage: Stage, missing: Items<u8>, counts: Items<u64>) -> Stage
             missing,
             counts,
         },
-        _ => Stage::Idle,
+        other => {
+            discard_stage(other);
+            Stage::Idle
+        }
     }
 }
 
@@ -102,7 +165,10 @@ fn finished_stage(stage: Stage, missing: Items<u8>) -> Stage
             updates,
             missing,
         },
-        _ => Stage::Idle,
+        other => {
+            discard_stage(other);
+            Stage::Idle
+        }
     }
 }
 
@@ -168,12 +234,66 @@ fn decided_stage(stage: Stage, updates: Items<Update>, missing: Items<u8>) -> St
     }
 }
 
+// The call that places a name in the stage.
+#[tactic(auto, unfolding(crate::specs::Patch::placing_call))]
+fn placing_call(stage: Stage) -> Option<CallRec>
+    ensures { result ≡ placing_call_of stage }
+{
+    match stage {
+        Stage::Block {
+            call,
+            missing: _missing,
+            rows: _rows,
+        } => Some(call),
+        Stage::Install {
+            call,
+            missing: _missing,
+        } => Some(call),
+        other => {
+            discard_stage(other);
+            None
+        }
+    }
+}
+
+// With these nodes still to give their rows away, and these rows.
+#[tactic(auto, unfolding(crate::specs::Patch::blocked_stage))]
+fn blocked_stage(stage: Stage, missing: Items<u8>, rows: Items<NamedRow>) -> Stage
+    ensures { result ≡ blocked_stage_of missing rows (placing_call_of stage) }
+{
+    match placing_call(stage) {
+        None => Stage::Idle,
+        Some(call) => Stage::Block {
+            call,
+            missing,
+            rows,
+        },
+    }
+}
+
+// With these nodes still to take their rows.
+#[tactic(auto, unfolding(crate::specs::Patch::installed_stage))]
+fn installed_stage(stage: Stage, missing: Items<u8>) -> Stage
+    ensures { result ≡ installed_stage_of missing (placing_call_of stage) }
+{
+    match placing_call(stage) {
+        None => Stage::Idle,
+        Some(call) => Stage::Install { call, missing },
+    }
+}
+
 impl Current {
     /// No operation is under way.
     pub fn idle() -> Current
         ensures { result ≡ stage.Idle }
     {
         Current { stage: Stage::Idle }
+    }
+
+    /// Lets the stage go.
+    pub fn discard(self) {
+        let Current { stage } = self;
+        discard_stage(stage);
     }
 
     /// The stage.
@@ -187,7 +307,15 @@ impl Current {
     pub fn set(&mut self, stage: Stage)
         ensures { self.new ≡ stage }
     {
-        self.stage = stage;
+        discard_stage(mem::replace(&mut self.stage, stage));
+    }
+
+    // The stage is handed over; no operation is under way then.
+    fn take(&mut self) -> Stage
+        ensures stage { result ≡ self.old }
+        ensures idle { self.new ≡ stage.Idle }
+    {
+        mem::replace(&mut self.stage, Stage::Idle)
     }
 
     /// The call whose walk waits is handed over; no operation is under way then.
@@ -195,31 +323,31 @@ impl Current {
         ensures call { result ≡ walked_call self.old }
         ensures idle { self.new ≡ stage.Idle }
     {
-        walked_call_of(mem::replace(&mut self.stage, Stage::Idle))
+        walked_call_of(self.take())
     }
 
     /// These nodes are still to be heard.
     pub fn finish(&mut self, missing: Items<u8>)
         ensures { self.new ≡ finished_stage_of missing self.old }
     {
-        let before = mem::replace(&mut self.stage, Stage::Idle);
-        self.stage = finished_stage(before, missing);
+        let before = self.take();
+        self.set(finished_stage(before, missing));
     }
 
     /// These nodes are still to be heard, and these are the counts.
     pub fn count(&mut self, missing: Items<u8>, counts: Items<u64>)
         ensures { self.new ≡ counted_stage_of missing counts self.old }
     {
-        let before = mem::replace(&mut self.stage, Stage::Idle);
-        self.stage = counted_stage(before, missing, counts);
+        let before = self.take();
+        self.set(counted_stage(before, missing, counts));
     }
 
     /// These nodes are still to shut the keys, and these are the rows.
     pub fn lock(&mut self, missing: Items<u8>, rows: Items<Update>)
         ensures { self.new ≡ locked_stage_of missing rows (operation_of self.old) }
     {
-        let before = mem::replace(&mut self.stage, Stage::Idle);
-        self.stage = locked_stage(before, missing, rows);
+        let before = self.take();
+        self.set(locked_stage(before, missing, rows));
     }
 
     /// A directory's entries are to be counted.
@@ -233,15 +361,31 @@ impl Current {
     )
         ensures { self.new ≡ counting_stage_of rows dir updates missing (operation_of self.old) }
     {
-        let before = mem::replace(&mut self.stage, Stage::Idle);
-        self.stage = counting_stage(alloc, before, rows, dir, updates, missing);
+        let before = self.take();
+        self.set(counting_stage(alloc, before, rows, dir, updates, missing));
     }
 
     /// The operation is decided by these updates.
     pub fn decide(&mut self, updates: Items<Update>, missing: Items<u8>)
         ensures { self.new ≡ decided_stage_of updates missing (operation_of self.old) }
     {
-        let before = mem::replace(&mut self.stage, Stage::Idle);
-        self.stage = decided_stage(before, updates, missing);
+        let before = self.take();
+        self.set(decided_stage(before, updates, missing));
+    }
+
+    /// These nodes are still to give their rows away, and these are the rows.
+    pub fn block(&mut self, missing: Items<u8>, rows: Items<NamedRow>)
+        ensures { self.new ≡ blocked_stage_of missing rows (placing_call_of self.old) }
+    {
+        let before = self.take();
+        self.set(blocked_stage(before, missing, rows));
+    }
+
+    /// These nodes are still to take their rows.
+    pub fn install(&mut self, missing: Items<u8>)
+        ensures { self.new ≡ installed_stage_of missing (placing_call_of self.old) }
+    {
+        let before = self.take();
+        self.set(installed_stage(before, missing));
     }
 }

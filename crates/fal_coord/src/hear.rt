@@ -10,17 +10,19 @@ ghost use Rattle.fal_coord.specs.Patch.{walked_call, operation_at, counted_stage
 ghost use Rattle.fal_coord.specs.Ready.{Does, DoesOf};
 ghost use Rattle.fal_coord.specs.Sound.{is_decidable, is_walked};
 ghost use Rattle.fal_coord.specs.State.{begun};
-ghost use Rattle.fal_coord.specs.Step.{is_to_coord as is_to_coord_of, coord_step};
+ghost use Rattle.fal_coord.specs.Step.{CanMake, IsInRange, is_to_coord as is_to_coord_of, coord_step};
 ghost use Rattle.fal_coord.specs.declared.stage.Stage.TheVariants as Stage;
 
 use crate::begin::{Onward, refusal_letters, walk_step};
 use crate::coord::Coord;
+use crate::current::discard_call;
 use crate::decide::{conclude, verdict_on};
 use crate::draft::{Draft, draft_of, quiet_draft};
 use crate::judging::counted;
 use crate::nodes::{is_missing, without_node};
 use crate::patch::Patch;
 use crate::paths::is_operation;
+use crate::placing::{take_blocked, take_installed};
 use crate::stage::{Operation, Stage};
 use crate::walks::Learned;
 use fal_base::{
@@ -31,15 +33,10 @@ use fal_wire::{Found, Message, WireFault, decode};
 use std::alloc::Global;
 
 // Nothing changes.
-fn nothing(coord: &Coord) -> Draft
+pub(crate) fn nothing(coord: &Coord) -> Draft
     ensures { Does coord.now.state (begun coord.now.state) result }
 {
     quiet_draft(coord.alloc, Patch::Nothing)
-}
-
-// Lets the call go.
-fn discard_call(call: CallRec) {
-    let _call = call;
 }
 
 // Lets the message go.
@@ -129,7 +126,10 @@ fn take_found(
 }
 
 // The rows kept, and those that a node tells.
-fn with_rows(rows: &Items<Update>, told: &Items<Update>) -> Result<Items<Update>, OutOfMemory>
+pub(crate) fn with_rows<T: Duplicate + Drop>(
+    rows: &Items<T>,
+    told: &Items<T>,
+) -> Result<Items<T>, OutOfMemory>
     ensures { IfOk result (λ all. all ≡ rows.now ++ told.now) }
 {
     let mut all = rows.copy()?;
@@ -275,6 +275,7 @@ fn take_done(coord: &Coord, number: u32, node: u8) -> Result<Draft, OutOfMemory>
 
 // A message comes. One of a kind that is not for the coordinator changes nothing.
 fn take_message(coord: &Coord, point: u64, message: Message) -> Result<Draft, OutOfMemory>
+    requires { IsInRange (take_message_of coord.now.state point message) }
     ensures { IfOk result (λ draft. Does coord.now.state (take_message_of coord.now.state point message) draft) }
 {
     match message {
@@ -283,6 +284,8 @@ fn take_message(coord: &Coord, point: u64, message: Message) -> Result<Draft, Ou
         Message::Locked { op, node, rows } => take_locked(coord, op, node, rows),
         Message::Counted { op, node, number } => take_counted(coord, op, node, number),
         Message::Done { op, node } => take_done(coord, op, node),
+        Message::Blocked { op, node, rows } => take_blocked(coord, op, node, rows),
+        Message::Installed { op, node } => take_installed(coord, op, node),
         other => {
             discard_message(other);
             Ok(nothing(coord))
@@ -292,6 +295,7 @@ fn take_message(coord: &Coord, point: u64, message: Message) -> Result<Draft, Ou
 
 // Bytes come. Those that are no record change nothing.
 fn take_bytes(coord: &Coord, point: u64, bytes: &[u8]) -> Result<Draft, OutOfMemory>
+    requires { IsInRange (take_read coord.now.state point (reading bytes.now)) }
     ensures { IfOk result (λ draft. Does coord.now.state (take_read coord.now.state point (reading bytes.now)) draft) }
 {
     match decode(coord.alloc, bytes) {
@@ -315,6 +319,7 @@ fn is_to_coord(to: Actor) -> bool
 // An envelope comes. Only one that was sent to the coordinator may.
 #[tactic(auto, unfolding(crate::specs::Step::coord_step, crate::specs::Hear::heard))]
 pub(crate) fn hear(coord: &Coord, envelope: &Envelope) -> Result<Option<Draft>, OutOfMemory>
+    requires { CanMake coord.now.state (CoordEvent.Hear envelope.now) }
     ensures does { IfOk result (λ draft. DoesOf coord.now.state (coord_step coord.now.state (CoordEvent.Hear envelope.now)) draft) }
     ensures err { OnErr result (IsSome (coord_step coord.now.state (CoordEvent.Hear envelope.now))) }
 {

@@ -64,6 +64,10 @@ fn copy_order(message: &Message) -> Result<Message, OutOfMemory>
             op: *op,
             updates: updates.copy()?,
         }),
+        Message::Block { op, name } => Ok(Message::Block {
+            op: *op,
+            name: name.copy()?,
+        }),
         _ => unreachable!(),
     }
 }

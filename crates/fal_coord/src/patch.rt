@@ -1,7 +1,8 @@
 ghost use Rattle.std.specs.Prelude.{◌≡◌, []};
 
 use crate::stage::PathWalk;
-use fal_base::{CallRec, Dentry, Items, Key, NoteList, OutputList, Outputs, Update};
+use fal_base::{CallRec, Dentry, Items, Key, NamedRow, NoteList, OutputList, Outputs, Update};
+use fal_place::Table;
 use std::alloc::Global;
 
 /// How a call goes on whose paths were walked.
@@ -17,6 +18,8 @@ pub enum Next {
         walks: Items<PathWalk>,
         missing: Items<u8>,
     },
+    /// Every node is to give its rows of the name away.
+    Block(Items<u8>),
 }
 
 /// What a step changes in the coordinator. What stays of the stage stays where it is.
@@ -57,6 +60,18 @@ pub enum Patch {
     },
     /// These nodes may still have the keys shut.
     Finish(Items<u8>),
+    /// These nodes are still to give their rows away, and these rows were given.
+    Block {
+        missing: Items<u8>,
+        rows: Items<NamedRow>,
+    },
+    /// The name is placed by this table, and these nodes are to take their rows.
+    Place {
+        table: Table,
+        missing: Items<u8>,
+    },
+    /// These nodes may not have taken their rows yet.
+    Install(Items<u8>),
     /// No operation is under way any more.
     Rest,
 }

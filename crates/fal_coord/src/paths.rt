@@ -6,7 +6,7 @@ ghost use Rattle.fal_coord.specs.Walks.{is_operation as is_operation_of, is_busy
 
 use fal_base::{Op, Path, PathArg};
 
-// Whether the coordinator carries the call out: a chmod, chown, rmdir or rename with good paths.
+// Whether the coordinator carries the call out: a chmod, chown, rmdir or rename with good paths, or a place.
 pub(crate) fn is_operation(op: &Op) -> bool
     ensures { result ≡ is_operation_of op.now }
 {
@@ -26,6 +26,7 @@ pub(crate) fn is_operation(op: &Op) -> bool
             old: PathArg::Good(_),
             new: PathArg::Good(_),
         } => true,
+        Op::Place { .. } => true,
         _ => false,
     }
 }

@@ -69,7 +69,7 @@ impl Coord {
         requires { All (λ letter. Fits letter.message) draft.now.letters.items }
         ensures state { self.new.state ≡ self.old.state }
         ensures room { IfOk result (λ sent. HasRoom self.new.room draft.now.patch) }
-        ensures sound { IfOk result (λ sent. IsSound self.new.state.waiting self.new.state.stage) }
+        ensures sound { IfOk result (λ sent. IsSound self.new.state.table self.new.state.waiting self.new.state.stage) }
         ensures sent { IfOk result (λ sent. sent ≡ map output_of draft.now.letters.items) }
     {
         self.make_room(&draft.patch)?;
@@ -81,7 +81,7 @@ impl Coord {
         requires { All (λ letter. Fits letter.message) draft.letters.items }
         ensures state { self.new.state ≡ self.old.state }
         ensures room { IfOk result (λ prepared. HasRoom self.new.room draft.patch) }
-        ensures sound { IfOk result (λ prepared. IsSound self.new.state.waiting self.new.state.stage) }
+        ensures sound { IfOk result (λ prepared. IsSound self.new.state.table self.new.state.waiting self.new.state.stage) }
         ensures patch { IfOk result (λ prepared. prepared.patch ≡ draft.patch) }
         ensures sent { IfOk result (λ prepared. prepared.outputs.sent ≡ map output_of draft.letters.items) }
         ensures notes { IfOk result (λ prepared. prepared.outputs.notes ≡ draft.notes.items) }

@@ -1,4 +1,4 @@
-use fal_base::{CallRec, Dentry, Items, Key, Update};
+use fal_base::{CallRec, Dentry, Items, Key, NamedRow, Update};
 
 /// Where the walk of a path has ended: at the directory of the last name, None for the root path alone, past the directories with these
 /// numbers.
@@ -47,6 +47,17 @@ pub enum Stage {
     Finish {
         keys: Items<Key>,
         updates: Items<Update>,
+        missing: Items<u8>,
+    },
+    /// The call places a name, and nodes give their rows of it away: those that have not answered, and the rows that the others have given.
+    Block {
+        call: CallRec,
+        missing: Items<u8>,
+        rows: Items<NamedRow>,
+    },
+    /// The name is placed: the nodes that may not have taken their rows yet.
+    Install {
+        call: CallRec,
         missing: Items<u8>,
     },
 }

@@ -61,3 +61,5 @@ can_change node work (patch.Release batch) same within can = tt
 can_change node work (patch.Serve item) same within can = tt
 can_change node work (patch.Shut item operation keys) same within can = can
 can_change node work (patch.Reopen operation updates) same within can = tt
+can_change node work (patch.Block item operation name) same within can = tt
+can_change node work (patch.Install table updates) same within can = tt

@@ -1,5 +1,7 @@
 -- An envelope comes to a node.
-use Rattle.std.specs.Prelude.{ℕ, List, [], ◌∷◌, ◌++◌, Option, None, Some, Result, Ok, Err, is_some, nat_lt, if◌then◌else◌}
+use Rattle.std.specs.Prelude.{ℕ, List, [], ◌∷◌, ◌++◌, Option, None, Some, Result, Ok, Err, is_some, nat_lt, ◌==◌, if◌then◌else◌}
+use Rattle.fal_base.specs.declared.barred.Barred.{Barred}
+use Rattle.fal_base.specs.declared.barred.Barred.TheVariants as barred
 use Rattle.fal_base.specs.declared.call.CallRec.{CallRec}
 use Rattle.fal_base.specs.declared.event.Envelope.{Envelope}
 use Rattle.fal_base.specs.declared.event.Actor.TheVariants.{Coord}
@@ -9,12 +11,16 @@ use Rattle.fal_base.specs.declared.key.Key.{Key}
 use Rattle.fal_base.specs.declared.reply.Errno.{Errno}
 use Rattle.fal_base.specs.declared.reply.Errno.TheVariants.{Enoent, Enotdir}
 use Rattle.fal_base.specs.declared.reply.Reply.TheVariants.{Fail}
+use Rattle.fal_base.specs.declared.row.NamedRow.{NamedRow}
 use Rattle.fal_base.specs.declared.row.Update.{Update}
+use Rattle.fal_base.specs.declared.rule.Rule.{Rule}
 use Rattle.fal_base.specs.Maps.{with_value}
 use Rattle.fal_base.specs.Updates.{laid}
 use Rattle.fal_duty.specs.Duties.{owned, count_told}
 use Rattle.fal_exec.specs.RowCall.{row_names}
+use Rattle.fal_inode.specs.Named.{puts}
 use Rattle.fal_locks.specs.Locks.{without_shut}
+use Rattle.fal_place.specs.Placement.{Placement, is_within, with_changes}
 use Rattle.fal_wait.specs.declared.pending_fetch.PendingFetch.{PendingFetch}
 use Rattle.fal_wait.specs.Waiting.{WaitList, call_with_ticket, fetch_of, after_admit, after_settle, without_call}
 use Rattle.fal_wire.specs.Letters.{letter, reply_letter}
@@ -25,6 +31,7 @@ use Rattle.fal_wire.specs.declared.message.Message.{Message}
 use Rattle.fal_wire.specs.declared.message.Message.TheVariants as message
 use Rattle.fal_wire.specs.Messages.{reading}
 use Rattle.fal_wire.specs.declared.letter.Letter.{Letter}
+use Rattle.fal_node.specs.declared.blocking.Blocking.{Blocking}
 use Rattle.fal_node.specs.State.{NodeState, with_item, is_of}
 use Rattle.fal_node.specs.Letters.{Work, begun, is_asker}
 
@@ -107,6 +114,45 @@ take_commit node operation updates =
     record { node = reopened node operation (owned node.table node.number updates); sent = letter Coord (Here 0) (message.Done operation node.number) ∷ []; notes = [] }
     else begun node
 
+-- ---- a name that is placed
+
+-- the one name, if it is one
+abbrev pub one_name : Barred → Option (List ℕ)
+one_name barred.Nothing = None
+one_name (barred.One name) = Some name
+one_name barred.All = None
+
+-- the name that this operation has blocked
+abbrev pub name_blocked : Option Blocking → ℕ → Option (List ℕ)
+name_blocked None operation = None
+name_blocked (Some blocking) operation = if blocking.operation == operation then one_name blocking.names else None
+
+-- the node has this table, the updates are laid on its rows, and nothing is blocked
+unfoldable pub installed : NodeState → Placement → List Update → NodeState
+installed node table updates = record node { table = table; rows = laid updates node.rows; blocked = None }
+
+-- the table of this version, in which the name has the rule
+abbrev pub table_with : Placement → ℕ → List ℕ → Rule → Placement
+table_with table version name rule = with_changes table version (record { name = name; rule = rule; version = version } ∷ [])
+
+-- the name gets the rule, and the rows are put under their keys; the coordinator is told
+abbrev pub install : NodeState → ℕ → ℕ → Rule → List NamedRow → List ℕ → Work
+install node operation version rule rows name = record {
+  node = installed node (table_with node.table version name rule) (puts name rows);
+  sent = letter Coord (Here 0) (message.Installed operation node.number) ∷ [];
+  notes = [];
+}
+
+-- where this operation has blocked no name here, nothing changes
+abbrev pub install_named : NodeState → ℕ → ℕ → Rule → List NamedRow → Option (List ℕ) → Work
+install_named node operation version rule rows None = begun node
+install_named node operation version rule rows (Some name) = install node operation version rule rows name
+
+-- nor does a rule that names a node that is not there
+abbrev pub take_install : NodeState → ℕ → ℕ → Rule → List NamedRow → Work
+take_install node operation version rule rows =
+    if is_within node.table.nodes rule then install_named node operation version rule rows (name_blocked node.blocked operation) else begun node
+
 -- ---- any record
 
 -- by the kind of the record
@@ -125,9 +171,9 @@ take_message node point (message.Count op dir) = take_count node op dir
 take_message node point (message.Counted op from number) = begun node
 take_message node point (message.Commit op updates) = take_commit node op updates
 take_message node point (message.Done op from) = begun node
-take_message node point (message.Block op name) = begun node
+take_message node point (message.Block op name) = begun (take_operation node op (message.Block op name))
 take_message node point (message.Blocked op from rows) = begun node
-take_message node point (message.Install op version rule rows) = begun node
+take_message node point (message.Install op version rule rows) = take_install node op version rule rows
 take_message node point (message.Installed op from) = begun node
 
 -- bytes that are no record change nothing

@@ -7,10 +7,10 @@ use Rattle.fal_node.specs.declared.patch.Patch.{Patch}
 use Rattle.fal_node.specs.declared.patch.Patch.TheVariants as patch
 use Rattle.fal_run.specs.declared.change.RowChange.{RowChange}
 use Rattle.fal_node.specs.State.{NodeState, without_item, released}
-use Rattle.fal_node.specs.Deliver.{admitted, learned, dismissed, with_operation, reopened}
+use Rattle.fal_node.specs.Deliver.{admitted, learned, dismissed, with_operation, reopened, installed}
 use Rattle.fal_node.specs.Gather.{with_waiting, with_batch}
 use Rattle.fal_node.specs.Exec.{with_executed}
-use Rattle.fal_node.specs.Serve.{shutting}
+use Rattle.fal_node.specs.Serve.{shutting, blocking}
 use Rattle.fal_run.specs.Rows.{rows_changed}
 
 -- for how many more of each there is room
@@ -58,3 +58,5 @@ patched node (patch.Release batch) = released node batch
 patched node (patch.Serve item) = without_item node item
 patched node (patch.Shut item operation keys) = without_item (shutting node operation keys.items) item
 patched node (patch.Reopen operation updates) = reopened node operation updates.items
+patched node (patch.Block item operation name) = without_item (blocking node operation name) item
+patched node (patch.Install table updates) = installed node table updates.items

@@ -63,6 +63,8 @@ HasRoom room (patch.Release batch) = Unit {0}
 HasRoom room (patch.Serve item) = Unit {0}
 HasRoom room (patch.Shut item operation keys) = HasRoomToShut room keys.items
 HasRoom room (patch.Reopen operation updates) = rows_put updates.items ≤ room.rows
+HasRoom room (patch.Block item operation name) = Unit {0}
+HasRoom room (patch.Install table updates) = rows_put updates.items ≤ room.rows
 
 -- the change suits the node, and takes no counter past the end of its type
 abbrev pub CanChange : NodeState → Patch → Type 0
@@ -78,6 +80,8 @@ CanChange node (patch.Release batch) = Unit {0}
 CanChange node (patch.Serve item) = Unit {0}
 CanChange node (patch.Shut item operation keys) = IsTrue (can_shut node.locks keys.items)
 CanChange node (patch.Reopen operation updates) = Unit {0}
+CanChange node (patch.Block item operation name) = Unit {0}
+CanChange node (patch.Install table updates) = Unit {0}
 
 abbrev pub CanPatch : SeenNode → Patch → Type 0
 CanPatch s patch = HasRoom s.room patch × CanChange s.state patch

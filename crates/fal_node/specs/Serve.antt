@@ -1,17 +1,19 @@
 -- An item is served: a record that the node has kept until it can.
 use Rattle.std.specs.Prelude.{ℕ, Bool, false, not, ◌&&◌, ◌||◌, List, [], ◌∷◌, Option, None, Some, is_some, ◌==◌, if◌then◌else◌}
 use Rattle.std.specs.List.{list_any}
+use Rattle.fal_base.specs.declared.barred.Barred.TheVariants.{One}
 use Rattle.fal_base.specs.declared.event.Actor.TheVariants.{Node, Coord}
 use Rattle.fal_base.specs.declared.event.Point.TheVariants.{Here}
 use Rattle.fal_base.specs.declared.key.Key.{Key}
 use Rattle.fal_place.specs.Placement.{owner}
 use Rattle.fal_dentry.specs.Walk.{without_keys}
-use Rattle.fal_locks.specs.Locks.{LockTable, is_shut, is_held, with_shut}
+use Rattle.fal_inode.specs.Named.{without_named}
+use Rattle.fal_locks.specs.Locks.{LockTable, is_shut, is_held, is_name_held, with_shut}
 use Rattle.fal_wait.specs.Waiting.{after_cancel}
 use Rattle.fal_wire.specs.declared.message.Message.{Message}
 use Rattle.fal_wire.specs.declared.message.Message.TheVariants as message
 use Rattle.fal_batch.specs.Fate.{bars}
-use Rattle.fal_duty.specs.Duties.{fetched_of, locked_of}
+use Rattle.fal_duty.specs.Duties.{fetched_of, locked_of, blocked_of}
 use Rattle.fal_node.specs.declared.item.Item.{Item}
 use Rattle.fal_wire.specs.declared.letter.Letter.{Letter}
 use Rattle.fal_node.specs.State.{NodeState, blocked_names, without_item}
@@ -65,6 +67,24 @@ lock_service node operation keys = record {
   work = record { node = shutting node operation keys; sent = letter Coord (Here 0) (locked_of node.table node.rows node.number operation keys) ∷ []; notes = [] };
 }
 
+-- ---- a Block
+
+-- it is served where no batch holds a key with the name, and nothing is blocked
+abbrev pub can_block : NodeState → List ℕ → Bool
+can_block node name = not (is_some node.blocked) && not (is_name_held node.locks name)
+
+-- the rows of the name leave, and the operation has it blocked
+unfoldable pub blocking : NodeState → ℕ → List ℕ → NodeState
+blocking node operation name =
+    record node { rows = without_named node.rows name; blocked = Some (record { operation = operation; names = One name }) }
+
+-- the coordinator is told the rows that leave
+abbrev pub block_service : NodeState → ℕ → List ℕ → Service
+block_service node operation name = record {
+  can = can_block node name;
+  work = record { node = blocking node operation name; sent = letter Coord (Here 0) (blocked_of node.rows node.number operation name) ∷ []; notes = [] };
+}
+
 -- ---- any item
 
 -- a record that is no item is never served
@@ -75,6 +95,7 @@ no_service node = record { can = false; work = begun node }
 abbrev pub service_of : NodeState → Message → Service
 service_of node (message.FetchAsk asker number key) = fetch_service node asker number key
 service_of node (message.Lock operation keys) = lock_service node operation keys
+service_of node (message.Block operation name) = block_service node operation name
 service_of node other = no_service node
 
 -- whether the condition of the item holds

@@ -12,6 +12,7 @@ ghost use Rattle.fal_node.specs.Step.{is_to_node as is_node_of, node_step};
 ghost use Rattle.fal_node.specs.Ready.{Does, DoesOf, CanDraft};
 
 use crate::draft::{Draft, quiet_draft};
+use crate::install::take_install;
 use crate::node::Node;
 use crate::operation::{take_commit, take_count, take_operation};
 use crate::patch::Patch;
@@ -105,6 +106,13 @@ fn take_message(node: &Node, point: u64, message: Message) -> Result<Draft, OutO
         Message::FetchAsk { asker, number, key } => Ok(take_question(node, asker, number, key)),
         Message::FetchGot { number, key, found } => take_found(node, number, point, key, found),
         Message::Lock { op, keys } => Ok(take_operation(node, op, Message::Lock { op, keys })),
+        Message::Block { op, name } => Ok(take_operation(node, op, Message::Block { op, name })),
+        Message::Install {
+            op,
+            version,
+            rule,
+            rows,
+        } => take_install(node, op, version, rule, rows.as_slice()),
         Message::Count { op, dir } => take_count(node, op, dir),
         Message::Commit { op, updates } => take_commit(node, op, updates.as_slice()),
         other => {

@@ -5,6 +5,7 @@
 
 mod apply;
 mod batch;
+mod block;
 mod blocking;
 mod deliver;
 mod draft;
@@ -12,6 +13,7 @@ mod due;
 mod event;
 mod exec;
 mod gather;
+mod install;
 mod item;
 mod law;
 mod lock;

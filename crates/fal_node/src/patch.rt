@@ -1,7 +1,8 @@
 ghost use Rattle.std.specs.Prelude.{◌≡◌, []};
 
-use fal_base::{CallRec, Dentry, Items, Key, NoteList, OutputList, Outputs, Update};
+use fal_base::{CallRec, Dentry, Items, Key, Name, NoteList, OutputList, Outputs, Update};
 use fal_batch::Wanted;
+use fal_place::Table;
 use fal_run::{BatchCall, RowChange};
 use fal_wire::Message;
 use std::alloc::Global;
@@ -52,6 +53,17 @@ pub enum Patch {
     /// Updates are laid on the rows, and the operation's keys are opened.
     Reopen {
         operation: u32,
+        updates: Vec<Update>,
+    },
+    /// The rows of the name leave, the operation has it blocked, and the item is served.
+    Block {
+        item: u64,
+        operation: u32,
+        name: Name,
+    },
+    /// The node has this table, updates are laid on its rows, and nothing is blocked.
+    Install {
+        table: Table,
         updates: Vec<Update>,
     },
 }

@@ -110,6 +110,8 @@ impl Node {
             Patch::Serve(_) => Ok(()),
             Patch::Shut { keys, .. } => self.make_room_to_shut(keys.len()),
             Patch::Reopen { updates, .. } => self.make_room_for_updates(updates),
+            Patch::Block { .. } => Ok(()),
+            Patch::Install { updates, .. } => self.make_room_for_updates(updates),
         }
     }
 }

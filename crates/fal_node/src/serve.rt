@@ -10,6 +10,7 @@ ghost use Rattle.fal_node.specs.Step.{release as release_of};
 ghost use Rattle.fal_node.specs.Ready.{DoesOf, CanDraft};
 
 use crate::batch::Batch;
+use crate::block::{can_block, serve_block};
 use crate::blocking::blocked_names;
 use crate::draft::{Draft, letters_of_one, quiet_draft, sending_draft};
 use crate::item::Item;
@@ -123,6 +124,7 @@ pub(crate) fn can_serve(node: &Node, message: &Message) -> bool
     match message {
         Message::FetchAsk { key, .. } => can_tell(node, key),
         Message::Lock { keys, .. } => can_shut(&node.locks, keys.as_slice()),
+        Message::Block { name, .. } => can_block(node, name),
         _ => false,
     }
 }
@@ -139,6 +141,7 @@ fn serve_item(node: &Node, item: &Item) -> Result<Option<Draft>, OutOfMemory>
             serve_fetch(node, item.number, *asker, *number, key)
         }
         Message::Lock { op, keys } => serve_lock(node, item.number, *op, keys),
+        Message::Block { op, name } => serve_block(node, item.number, *op, name),
         _ => Ok(None),
     }
 }

@@ -4,15 +4,17 @@ ghost use Rattle.std.specs.Prelude.{◌≡◌, ◌+◌, ◌≤◌, length, is_so
 ghost use Rattle.fal_base.specs.Updates.{laid, laid_at};
 ghost use Rattle.fal_locks.specs.Locks.{first_held, with_shut};
 ghost use Rattle.fal_node.specs.State.{without_item};
-ghost use Rattle.fal_node.specs.Deliver.{reopened};
-ghost use Rattle.fal_node.specs.Serve.{can_shut, shutting};
+ghost use Rattle.fal_node.specs.Deliver.{reopened, installed};
+ghost use Rattle.fal_node.specs.Serve.{can_shut, shutting, blocking};
 ghost use Rattle.fal_node.specs.Patch.{rows_put};
 ghost use Rattle.fal_node.specs.Ready.{HasRoomToShut};
 
+use crate::blocking::Blocking;
 use crate::node::Node;
-use fal_base::{Inode, Key, Update};
+use fal_base::{Barred, Inode, Key, Name, Update};
 use fal_inode::Rows;
 use fal_locks::Locks;
+use fal_place::Table;
 
 // This row, or none, stands under the key.
 fn lay_row(rows: &mut Rows, key: Key, row: Option<Inode>)
@@ -85,5 +87,36 @@ impl Node {
     {
         lay(&mut self.rows, updates);
         self.locks.reopen(operation);
+    }
+
+    // The rows of the name leave, and the operation has it blocked.
+    #[tactic(auto, unfolding(crate::specs::Serve::blocking))]
+    fn block_name(&mut self, operation: u32, name: Name)
+        ensures { self.new.state ≡ blocking self.old.state operation name }
+    {
+        let name = self.rows.drop_named(name);
+        self.blocked = Some(Blocking {
+            operation,
+            names: Barred::One(name),
+        });
+    }
+
+    // A Block, which the item is, is served.
+    pub(crate) fn serve_block(&mut self, item: u64, operation: u32, name: Name)
+        ensures { self.new.state ≡ without_item (blocking self.old.state operation name) item }
+    {
+        self.block_name(operation, name);
+        self.finish(item);
+    }
+
+    // The node has the table, the updates are laid on the rows, and nothing is blocked any more.
+    #[tactic(auto, unfolding(crate::specs::Deliver::installed))]
+    pub(crate) fn install(&mut self, table: Table, updates: Vec<Update>)
+        requires { rows_put updates.items ≤ self.old.room.rows }
+        ensures { self.new.state ≡ installed self.old.state table updates.items }
+    {
+        lay(&mut self.rows, updates);
+        self.table = table;
+        self.blocked = None;
     }
 }

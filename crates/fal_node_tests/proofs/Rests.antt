@@ -12,7 +12,7 @@ use Rattle.fal_wire.specs.Messages.{Fits, reading}
 use Rattle.fal_coord.specs.declared.event.CoordEvent.{CoordEvent}
 use Rattle.fal_coord.specs.declared.event.CoordEvent.TheVariants.{Hear, Start}
 use Rattle.fal_coord.specs.declared.patch.Prepared.{Prepared}
-use Rattle.fal_coord.specs.Hear.{taken, take_call, take_found, take_locked, take_counted, take_done, take_message, take_read, heard}
+use Rattle.fal_coord.specs.Hear.{taken, take_call, take_found, take_locked, take_counted, take_done, take_blocked, take_installed, take_message, take_read, heard}
 use Rattle.fal_coord.specs.Patch.{SeenCoord}
 use Rattle.fal_coord.specs.Ready.{after, IsStepOf, IsStepFor}
 use Rattle.fal_coord.specs.State.{CoordState, Work, begun, opening_coord}
@@ -27,14 +27,14 @@ record IsCalm (work : Work) : Type 0 where
 
 pub resting_opening : (nodes : ℕ) → IsResting (opening_coord nodes)
 unfolding opening_coord
-resting_opening nodes = record { stage = refl; operation = refl; asked = refl }
+resting_opening nodes = record { stage = refl; operation = refl; asked = refl; version = refl }
 
 same_calm : (coord : CoordState) → IsResting coord → IsCalm (begun coord)
 same_calm coord rests = record { coord = rests; sent = refl }
 
 taken_calm : (coord : CoordState) (call : CallRec) → IsResting coord → IsCalm (begun (taken coord call))
 unfolding taken
-taken_calm coord call rests = record { coord = record { stage = rests.stage; operation = rests.operation; asked = rests.asked }; sent = refl }
+taken_calm coord call rests = record { coord = record { stage = rests.stage; operation = rests.operation; asked = rests.asked; version = rests.version }; sent = refl }
 
 calm_call : (coord : CoordState) (call : CallRec) → IsResting coord → IsCalm (begun (take_call coord call))
 calm_call coord call rests =
@@ -59,9 +59,9 @@ calm_message coord point (message.Lock number keys) rests = same_calm coord rest
 calm_message coord point (message.Count number dir) rests = same_calm coord rests
 calm_message coord point (message.Commit number updates) rests = same_calm coord rests
 calm_message coord point (message.Block number name) rests = same_calm coord rests
-calm_message coord point (message.Blocked number from rows) rests = same_calm coord rests
+calm_message coord point (message.Blocked number node rows) rests = subst (λ stage. IsCalm (take_blocked coord number node rows stage)) (sym rests.stage) (same_calm coord rests)
 calm_message coord point (message.Install number version rule rows) rests = same_calm coord rests
-calm_message coord point (message.Installed number from) rests = same_calm coord rests
+calm_message coord point (message.Installed number node) rests = subst (λ stage. IsCalm (begun (take_installed coord number node stage))) (sym rests.stage) (same_calm coord rests)
 
 calm_read : (coord : CoordState) (point : ℕ) (read : Result Message WireFault) → IsResting coord → IsCalm (take_read coord point read)
 calm_read coord point (Ok m) rests = calm_message coord point m rests
@@ -76,10 +76,12 @@ in_range work calm =
     let none : All (λ (l : Letter). Fits l.message) [] = λ k d lt. absurd (omega arith) in
     let operation = calm.coord.operation in
     let asked = calm.coord.asked in
+    let version = calm.coord.version in
     record {
       records = subst (λ ls. All (λ (l : Letter). Fits l.message) ls) (sym calm.sent) none;
       operation = omega arith;
       asked = omega arith;
+      version = omega arith;
     }
 
 if_there : (b : Bool) (x w : Work) (P : Work → Type 0) → P x → cond b (Some x) None ≡ Some w → P w

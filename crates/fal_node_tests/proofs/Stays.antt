@@ -1,9 +1,12 @@
 -- Whatever comes to a young node stays within the ranges, and leaves it young.
-use Rattle.std.proofs.Common.{◌≡◌, ℕ, ◌+◌, ◌≤◌, Bool, true, false, cond, [], Option, Some, None, Result, Ok, Err, is_some, ◌==◌, ◌<◌, nat_lt, ◌∷◌, ◌^◌, refl, sym, ap, subst, arith}
+use Rattle.std.proofs.Common.{◌≡◌, ℕ, ◌+◌, ◌≤◌, Bool, true, false, cond, List, [], Option, Some, None, Result, Ok, Err, is_some, ◌==◌, ◌<◌, nat_lt, ◌∷◌, ◌^◌, refl, sym, ap, subst, arith}
 use Rattle.std.specs.List.{All, find}
 use Rattle.fal_base.specs.declared.call.CallRec.{CallRec}
 use Rattle.fal_base.specs.declared.event.Envelope.{Envelope}
+use Rattle.fal_base.specs.declared.row.NamedRow.{NamedRow}
+use Rattle.fal_base.specs.declared.rule.Rule.{Rule}
 use Rattle.fal_exec.specs.RowCall.{row_names}
+use Rattle.fal_place.specs.Placement.{is_within}
 use Rattle.fal_wait.specs.declared.pending_fetch.PendingFetch.{PendingFetch}
 use Rattle.fal_wait.specs.Waiting.{WaitList, is_new, with_call, fetch_of}
 use Rattle.fal_wire.specs.declared.fault.WireFault.{WireFault}
@@ -17,7 +20,7 @@ use Rattle.fal_node.specs.declared.patch.Prepared.{Prepared}
 use Rattle.fal_node.specs.State.{NodeState, opening_node, with_item, is_of}
 use Rattle.fal_node.specs.Letters.{Work, begun, is_asker}
 use Rattle.fal_run.specs.Letters.{commits_in}
-use Rattle.fal_node.specs.Deliver.{admitted, take_call, settle_pending, with_operation, take_operation, reopened, take_message, take_read, delivered}
+use Rattle.fal_node.specs.Deliver.{admitted, take_call, settle_pending, with_operation, take_operation, reopened, name_blocked, install_named, take_install, take_message, take_read, delivered}
 use Rattle.fal_node.specs.Patch.{SeenNode}
 use Rattle.fal_node.specs.Ready.{after, IsStepOf, IsStepFor}
 use Rattle.fal_node.specs.Step.{IsWithin, StaysWithin, is_to_node, only_if, node_step}
@@ -35,13 +38,13 @@ record IsQuiet (n : ℕ) (work : Work) : Type 0 where
 
 pub young_opening : (number nodes limit : ℕ) → number ≤ 15 → IsYoung 0 (opening_node number nodes limit)
 unfolding opening_node
-young_opening number nodes limit small = record { number = small; fetches = refl; opened = refl; batches = refl; drawn = refl; shut = refl; tickets = omega arith; items = omega arith }
+young_opening number nodes limit small = record { number = small; fetches = refl; opened = refl; batches = refl; drawn = refl; shut = refl; blocked = refl; tickets = omega arith; items = omega arith }
 
 pub older : (n m : ℕ) (node : NodeState) → n ≤ m → IsYoung n node → IsYoung m node
 older n m node le young =
     let tickets = young.tickets in
     let items = young.items in
-    record { number = young.number; fetches = young.fetches; opened = young.opened; batches = young.batches; drawn = young.drawn; shut = young.shut; tickets = omega arith; items = omega arith }
+    record { number = young.number; fetches = young.fetches; opened = young.opened; batches = young.batches; drawn = young.drawn; shut = young.shut; blocked = young.blocked; tickets = omega arith; items = omega arith }
 
 same_quiet : (n : ℕ) (node : NodeState) → IsYoung n node → IsQuiet (n + 1) (begun node)
 same_quiet n node young = record { node = older n (n + 1) node (omega arith) young; sent = refl; notes = refl }
@@ -52,8 +55,8 @@ young_admitted n node call young =
     let tickets = young.tickets in
     let items = young.items in
     elim (is_new node.waiting call) as (λ b. IsYoung (n + 1) (record node { waiting = cond b (with_call node.waiting call) node.waiting })) [
-      | true ↦ record { number = young.number; fetches = young.fetches; opened = young.opened; batches = young.batches; drawn = young.drawn; shut = young.shut; tickets = omega arith; items = omega arith }
-      | false ↦ record { number = young.number; fetches = young.fetches; opened = young.opened; batches = young.batches; drawn = young.drawn; shut = young.shut; tickets = omega arith; items = omega arith }
+      | true ↦ record { number = young.number; fetches = young.fetches; opened = young.opened; batches = young.batches; drawn = young.drawn; shut = young.shut; blocked = young.blocked; tickets = omega arith; items = omega arith }
+      | false ↦ record { number = young.number; fetches = young.fetches; opened = young.opened; batches = young.batches; drawn = young.drawn; shut = young.shut; blocked = young.blocked; tickets = omega arith; items = omega arith }
     ]
 
 quiet_call : (n : ℕ) (node : NodeState) (call : CallRec) → IsYoung n node → IsQuiet (n + 1) (begun (take_call node call))
@@ -69,7 +72,7 @@ quiet_item n node m young =
     let tickets = young.tickets in
     let items = young.items in
     record {
-      node = record { number = young.number; fetches = young.fetches; opened = young.opened; batches = young.batches; drawn = young.drawn; shut = young.shut; tickets = omega arith; items = omega arith };
+      node = record { number = young.number; fetches = young.fetches; opened = young.opened; batches = young.batches; drawn = young.drawn; shut = young.shut; blocked = young.blocked; tickets = omega arith; items = omega arith };
       sent = refl;
       notes = refl;
     }
@@ -82,7 +85,7 @@ quiet_operation n node operation m young =
     let items = young.items in
     elim (nat_lt node.last_operation operation) as (λ b. IsQuiet (n + 1) (begun (cond b (with_operation node operation m) node))) [
       | true ↦ record {
-        node = record { number = young.number; fetches = young.fetches; opened = young.opened; batches = young.batches; drawn = young.drawn; shut = young.shut; tickets = omega arith; items = omega arith };
+        node = record { number = young.number; fetches = young.fetches; opened = young.opened; batches = young.batches; drawn = young.drawn; shut = young.shut; blocked = young.blocked; tickets = omega arith; items = omega arith };
         sent = refl;
         notes = refl;
       }
@@ -99,6 +102,14 @@ has_not_shut n node operation young = ap (λ shut. is_of shut operation) young.s
 
 none_pending : (list : WaitList) (number : ℕ) → list.fetches ≡ [] → fetch_of list number ≡ None
 none_pending list number none = ap (λ fs. find (λ (f : PendingFetch). f.number == number) fs) none
+
+-- an Install that finds no name blocked changes nothing
+unblocked : (n : ℕ) (node : NodeState) (op version : ℕ) (rule : Rule) (rows : List NamedRow) → IsYoung n node → IsQuiet (n + 1) (take_install node op version rule rows)
+unblocked n node op version rule rows young =
+    elim (is_within node.table.nodes rule) as (λ b. IsQuiet (n + 1) (cond b (install_named node op version rule rows (name_blocked node.blocked op)) (begun node))) [
+      | true ↦ subst (λ blocked. IsQuiet (n + 1) (install_named node op version rule rows (name_blocked blocked op))) (sym young.blocked) (same_quiet n node young)
+      | false ↦ same_quiet n node young
+    ]
 
 quiet_message : (n : ℕ) (node : NodeState) (point : ℕ) (m : Message) → IsYoung n node → IsQuiet (n + 1) (take_message node point m)
 quiet_message n node point (message.Call call) young = quiet_call n node call young
@@ -123,9 +134,9 @@ quiet_message n node point (message.Commit op updates) young =
     let node_after = reopened node op (owned node.table node.number updates) in
     unless_shut n node (record { node = node_after; sent = letter Coord (Here 0) (message.Done op node.number) ∷ []; notes = [] }) (is_of node.locks.shut op) (has_not_shut n node op young) young
 quiet_message n node point (message.Done op from) young = same_quiet n node young
-quiet_message n node point (message.Block op name) young = same_quiet n node young
+quiet_message n node point (message.Block op name) young = quiet_operation n node op (message.Block op name) young
 quiet_message n node point (message.Blocked op from rows) young = same_quiet n node young
-quiet_message n node point (message.Install op version rule rows) young = same_quiet n node young
+quiet_message n node point (message.Install op version rule rows) young = unblocked n node op version rule rows young
 quiet_message n node point (message.Installed op from) young = same_quiet n node young
 
 quiet_read : (n : ℕ) (node : NodeState) (point : ℕ) (read : Result Message WireFault) → IsYoung n node → IsQuiet (n + 1) (take_read node point read)

@@ -5,11 +5,12 @@ use Rattle.fal_coord.specs.declared.event.CoordEvent.TheVariants.{Hear, Start}
 use Rattle.fal_coord.specs.declared.stage.Stage.TheVariants.{Idle}
 use Rattle.fal_coord.specs.State.{CoordState}
 
--- nothing is under way, and no operation and no fetch was numbered
+-- nothing is under way, no operation and no fetch was numbered, and no name is placed
 pub record IsResting (coord : CoordState) : Type 0 where
   pub stage : coord.stage ≡ Idle
   pub operation : coord.operation ≡ 0
   pub asked : coord.asked ≡ 0
+  pub version : coord.table.version ≡ 0
 
 -- an envelope comes
 abbrev pub IsHearing : CoordEvent → Type 0

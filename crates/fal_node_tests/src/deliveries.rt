@@ -15,7 +15,7 @@ const STAT: &[u8] =
     b"\x01\x01\0\0\0\x1c\x01\0\0\0\x01\0\0\0\x01\0\0\0\0\0\0\0\0\0\0\0\0\0\0\0\0\x03\0\0";
 
 // Envelopes by receiver and bytes, whether the bytes are a record, and what they do to node 1 of three as they come once and once more.
-const ROWS: [(Actor, &[u8], bool, [Effect; 2]); 20] = [
+const ROWS: [(Actor, &[u8], bool, [Effect; 2]); 25] = [
     // what was sent to another actor
     (Actor::Client(1), STAT, true, [Effect::Refused; 2]),
     (Actor::Node(0), STAT, true, [Effect::Refused; 2]),
@@ -79,6 +79,39 @@ const ROWS: [(Actor, &[u8], bool, [Effect; 2]); 20] = [
     (
         Actor::Node(1),
         b"\x0d\x01\0\0\0\x10\0\0\0\x01\x01\0\0\0\0\0\0\0\x01\x01a\0",
+        true,
+        [Effect::Nothing; 2],
+    ),
+    // operation 2 is to block the name `a`: it is taken once
+    (
+        Actor::Node(1),
+        b"\x0f\x01\0\0\0\x06\0\0\0\x02\x01a",
+        true,
+        [Effect::Change, Effect::Nothing],
+    ),
+    // an operation that has blocked no name here gives it a rule: by hash, and by node 3, which is not there
+    (
+        Actor::Node(1),
+        b"\x11\x01\0\0\0\x0d\0\0\0\x02\0\0\0\x01\0\0\0\0\0",
+        true,
+        [Effect::Nothing; 2],
+    ),
+    (
+        Actor::Node(1),
+        b"\x11\x01\0\0\0\x0f\0\0\0\x02\0\0\0\x01\x02\0\x03\0\0\0\0",
+        true,
+        [Effect::Nothing; 2],
+    ),
+    // node 0 has given its rows away, and has taken those that are its
+    (
+        Actor::Node(1),
+        b"\x10\x01\0\0\0\x09\0\0\0\x02\0\0\0\0\0",
+        true,
+        [Effect::Nothing; 2],
+    ),
+    (
+        Actor::Node(1),
+        b"\x12\x01\0\0\0\x05\0\0\0\x02\0",
         true,
         [Effect::Nothing; 2],
     ),

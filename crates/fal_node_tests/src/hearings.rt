@@ -15,7 +15,7 @@ const RMDIR: &[u8] =
     b"\x01\x01\0\0\0\x1e\x01\0\0\0\x01\0\0\0\x01\0\0\0\0\0\0\0\0\0\0\0\0\0\0\0\0\x09\0\x01\x01a";
 
 // Envelopes by receiver and bytes, whether the bytes are a record, and what they do to the coordinator of three nodes as they come once and once more.
-const ROWS: [(Actor, &[u8], bool, [Effect; 2]); 15] = [
+const ROWS: [(Actor, &[u8], bool, [Effect; 2]); 21] = [
     // what was sent to another actor
     (Actor::Client(1), RMDIR, true, [Effect::Refused; 2]),
     (Actor::Node(0), RMDIR, true, [Effect::Refused; 2]),
@@ -82,7 +82,44 @@ const ROWS: [(Actor, &[u8], bool, [Effect; 2]); 15] = [
         true,
         [Effect::Nothing; 2],
     ),
-    // records for a node: a Lock and a Commit
+    // they have given their rows of a name away, and have taken those that are theirs
+    (
+        Actor::Coord,
+        b"\x10\x01\0\0\0\x09\0\0\0\x01\0\0\0\0\0",
+        true,
+        [Effect::Nothing; 2],
+    ),
+    (
+        Actor::Coord,
+        b"\x10\x01\0\0\0\x09\0\0\0\x01\x09\0\0\0\0",
+        true,
+        [Effect::Nothing; 2],
+    ),
+    (
+        Actor::Coord,
+        b"\x12\x01\0\0\0\x05\0\0\0\x01\0",
+        true,
+        [Effect::Nothing; 2],
+    ),
+    (
+        Actor::Coord,
+        b"\x12\x01\0\0\0\x05\0\0\0\x01\x09",
+        true,
+        [Effect::Nothing; 2],
+    ),
+    // records for a node: a Block, an Install, a Lock and a Commit
+    (
+        Actor::Coord,
+        b"\x0f\x01\0\0\0\x06\0\0\0\x01\x01a",
+        true,
+        [Effect::Nothing; 2],
+    ),
+    (
+        Actor::Coord,
+        b"\x11\x01\0\0\0\x0d\0\0\0\x01\0\0\0\x01\0\0\0\0\0",
+        true,
+        [Effect::Nothing; 2],
+    ),
     (
         Actor::Coord,
         b"\x09\x01\0\0\0\x0f\0\0\0\x01\x01\0\0\0\0\0\0\0\x01\x01a",

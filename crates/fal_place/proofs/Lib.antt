@@ -1,4 +1,5 @@
 pub mod Carried
+pub mod Firsts
 pub mod Rising
 mod Rows
 pub mod Tables

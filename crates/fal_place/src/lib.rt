@@ -3,6 +3,7 @@
 
 mod hash;
 mod rules;
+mod starts;
 mod table;
 
 pub use hash::name_hash;

@@ -1,4 +1,4 @@
-ghost use Rattle.std.specs.Prelude.{◌≡◌, ◌≤◌, filter, find, length, fold, nat_lt, IfOk, OnOk};
+ghost use Rattle.std.specs.Prelude.{◌≡◌, ◌≤◌, ◌<◌, ◌+◌, ◌-◌, filter, find, length, fold, nat_lt, IfOk, vec_len, vec_capacity};
 ghost use Rattle.std.specs.List.{list_any, position_or_len};
 ghost use Rattle.fal_place.specs.Placement.{same_name, rule_found, with_change, without_name};
 
@@ -27,11 +27,11 @@ pub(crate) fn has_rule(rules: &[RuleChange], name: &Name) -> bool
 }
 
 // The same rules, in their order.
-pub(crate) fn copied(rules: &Vec<RuleChange>) -> Result<Vec<RuleChange>, OutOfMemory>
-    ensures { IfOk result (λ copied. copied.items ≡ rules.now.items) }
+pub(crate) fn copied(alloc: Global, rules: &[RuleChange]) -> Result<Vec<RuleChange>, OutOfMemory>
+    ensures { IfOk result (λ copied. copied.items ≡ rules.now) }
 {
-    let mut copied = Vec::with_capacity(*rules.allocator(), rules.len())?;
-    for change in rules.as_slice() {
+    let mut copied = Vec::with_capacity(alloc, rules.len())?;
+    for change in rules {
         copied.push(change.copy()?)?;
     }
     Ok(copied)
@@ -72,30 +72,31 @@ fn place_after(rules: &[RuleChange], version: u32) -> usize
 
 // Takes out the rule of a name, if it has one.
 fn remove_name(rules: &mut Vec<RuleChange>, name: &Name)
-    ensures { rules.new.items ≡ without_name name.now rules.old.items }
+    ensures rules { rules.new.items ≡ without_name name.now rules.old.items }
+    ensures room { vec_capacity rules.old - vec_len rules.old ≤ vec_capacity rules.new - vec_len rules.new }
 {
     rules.retain(|rule| rule.name != *name);
 }
 
-// Sets a rule, in place of its name's earlier one.
-pub(crate) fn set_rule(rules: &mut Vec<RuleChange>, change: RuleChange) -> Result<(), OutOfMemory>
-    ensures { OnOk result (rules.new.items ≡ with_change rules.old.items change) }
+// Sets a rule, in place of its name's earlier one. Takes no memory.
+pub(crate) fn put_rule(rules: &mut Vec<RuleChange>, change: RuleChange)
+    requires { vec_len rules.old < vec_capacity rules.old }
+    ensures rules { rules.new.items ≡ with_change rules.old.items change }
+    ensures room { vec_capacity rules.old - vec_len rules.old ≤ (vec_capacity rules.new - vec_len rules.new) + 1 }
 {
     remove_name(rules, &change.name);
     let place = place_after(rules, change.version);
-    rules.insert(place, change)?;
-    Ok(())
+    let Ok(()) = rules.insert(place, change) else {
+        unreachable!()
+    };
 }
 
-// Sets these rules, in their order.
-pub(crate) fn set_rules(
-    rules: &mut Vec<RuleChange>,
-    changes: &[RuleChange],
-) -> Result<(), OutOfMemory>
-    ensures { OnOk result (rules.new.items ≡ fold with_change rules.old.items changes.now) }
+// Sets these rules, in their order. Takes no memory.
+pub(crate) fn put_rules(rules: &mut Vec<RuleChange>, changes: Vec<RuleChange>)
+    requires { length changes.items ≤ vec_capacity rules.old - vec_len rules.old }
+    ensures { rules.new.items ≡ fold with_change rules.old.items changes.items }
 {
     for change in changes {
-        set_rule(rules, change.copy()?)?;
+        put_rule(rules, change);
     }
-    Ok(())
 }

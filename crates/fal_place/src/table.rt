@@ -5,6 +5,7 @@ ghost use Rattle.fal_place.specs.Placement.{rule_of, owner as owner_of, route as
 
 use crate::hash::{key_hash, name_hash};
 use crate::rules;
+use crate::starts::{start_of, starts_of};
 use fal_base::{Duplicate, Key, Name, OutOfMemory, Path, Rule, RuleChange};
 use std::alloc::Global;
 use std::marker::Model;
@@ -28,16 +29,19 @@ pub struct Table {
     nodes: u8,
     version: u32,
     rules: Vec<RuleChange>,
+    // from which place on a name's rule is looked for
+    starts: Vec<u16>,
 }
 
 impl Model for Table {
     ghost use Rattle.fal_place.specs.Placement.{Placement, IsSoundTable};
+    ghost use Rattle.fal_place.specs.Starts.{AreStarts};
 
     ghost Value = { Placement };
 
     ghost view = { λ t. record { nodes = t.nodes; version = t.version; rules = t.rules.items } };
 
-    ghost invariant = { λ t. IsSoundTable t.nodes t.rules.items };
+    ghost invariant = { λ t. IsSoundTable t.nodes t.rules.items × AreStarts t.starts.items t.rules.items };
 }
 
 impl Table {
@@ -51,6 +55,7 @@ impl Table {
             nodes,
             version: 0,
             rules: Vec::new(alloc),
+            starts: Vec::new(alloc),
         }
     }
 
@@ -87,7 +92,7 @@ impl Table {
         ensures rule { result ≡ rule_of self.now name.now }
         ensures within { IsTrue (is_within self.now.nodes result) }
     {
-        rules::rule_of(&self.rules, name)
+        rules::rule_of(&self.rules[start_of(&self.starts, name)..], name)
     }
 
     /// Whether the rule names no node, or one that is there. Takes no memory.
@@ -180,16 +185,19 @@ impl Table {
         ensures { IfOk result (λ table. table ≡ with_rule self.now name.now rule) }
     {
         let version = self.version + 1;
-        let mut rules = rules::copied(&self.rules)?;
+        let alloc = *self.rules.allocator();
+        let mut rules = rules::copied(alloc, &self.rules)?;
+        rules.reserve(1)?;
         let change = RuleChange {
             name: name.copy()?,
             rule,
             version,
         };
-        rules::set_rule(&mut rules, change)?;
+        rules::put_rule(&mut rules, change);
         Ok(Table {
             nodes: self.nodes,
             version,
+            starts: starts_of(alloc, &rules),
             rules,
         })
     }
@@ -213,9 +221,11 @@ impl Table {
         ensures caught_up { OnOk result (CatchesUp self.old to changes.now self.new) }
         ensures err { OnErr result (self.new ≡ self.old) }
     {
-        let mut rules = rules::copied(&self.rules)?;
-        rules::set_rules(&mut rules, changes)?;
-        self.rules = rules;
+        let alloc = *self.rules.allocator();
+        let changes = rules::copied(alloc, changes)?;
+        self.rules.reserve(changes.len())?;
+        rules::put_rules(&mut self.rules, changes);
+        self.starts = starts_of(alloc, &self.rules);
         self.version = to;
         Ok(())
     }
@@ -232,10 +242,12 @@ fn node_of(hash: u64, nodes: u8) -> u8
 
 impl Duplicate for Table {
     fn copy(&self) -> Result<Self, OutOfMemory> {
+        let alloc = *self.rules.allocator();
         Ok(Table {
             nodes: self.nodes,
             version: self.version,
-            rules: rules::copied(&self.rules)?,
+            rules: rules::copied(alloc, &self.rules)?,
+            starts: Vec::from_slice(alloc, &self.starts)?,
         })
     }
 }

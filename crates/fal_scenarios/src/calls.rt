@@ -21,7 +21,7 @@ pub fn call(alloc: Global, lanes: u8, words: &[&[u8]]) -> Result<ScriptCall, Bro
     let Some(lane) = number_up_to(u64::from(lanes), lane) else {
         return Err(Broken::Grammar);
     };
-    let cred = cred_word(alloc, cred)?.ok_or(Broken::Grammar)?;
+    let cred = cred_word(cred).ok_or(Broken::Grammar)?;
     let verb = verb_word(verb).ok_or(Broken::Grammar)?;
     let op = op_words(alloc, verb, arguments).map_err(broken)?;
     Ok(ScriptCall {

@@ -3,7 +3,7 @@
 use crate::broken::Broken;
 use crate::scene::Scene;
 use fal_alone::Cluster;
-use fal_base::{Actor, Call, Cred, Event, Op, PathArg};
+use fal_base::{Actor, Call, Cred, Event, Name, Op, PathArg, Rule};
 use rand_core::utils::NextWord;
 use rand_pcg::Lcg64Xsh32;
 use std::alloc::Global;
@@ -40,6 +40,17 @@ fn drawn_mode(source: &mut Lcg64Xsh32) -> u16 {
     }
 }
 
+// A rule of a name. The node may not be there.
+fn drawn_rule(source: &mut Lcg64Xsh32) -> Rule {
+    match draw(source, 5) {
+        0 => Rule::Hash,
+        1 => Rule::ByParent,
+        2 => Rule::Node(0),
+        3 => Rule::Node(1),
+        _ => Rule::Node(2),
+    }
+}
+
 /// A call on one of few paths, now and then by another user than root.
 pub fn drawn_call(alloc: Global, source: &mut Lcg64Xsh32) -> Result<Call, Broken> {
     let (uid, gid) = if draw(source, 4) == 0 {
@@ -63,7 +74,11 @@ pub fn drawn_call(alloc: Global, source: &mut Lcg64Xsh32) -> Result<Call, Broken
             gid: 100,
         },
         9 => Op::Rmdir { path },
-        10..=13 => Op::Rename {
+        10 => Op::Place {
+            name: Name::read(alloc, b"b").map_err(|_| Broken::OutOfMemory)?,
+            rule: drawn_rule(source),
+        },
+        11..=13 => Op::Rename {
             old: path,
             new: drawn_path(alloc, source)?,
         },

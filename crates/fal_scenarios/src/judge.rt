@@ -1,12 +1,13 @@
 //! The plain tree judges a run.
 
 use crate::broken::Broken;
+use crate::placed::wrong_places;
 use fal_alone::Cluster;
 use fal_base::{Call, Config, Entry, Op, Reply};
 use fal_tree::PlainTree;
 use std::alloc::Global;
 
-fn call_of(config: &Config, lane: u8, seq: u32) -> Option<&Call> {
+pub fn call_of(config: &Config, lane: u8, seq: u32) -> Option<&Call> {
     let calls = config.lanes.get(usize::from(lane).checked_sub(1)?)?;
     calls.get((seq as usize).checked_sub(1)?)
 }
@@ -32,10 +33,10 @@ fn tree_at(
     Ok(tree)
 }
 
-// Whether the plain tree answers the call with this reply. It has no answer to a change of placement.
+// Whether the plain tree answers the call with this reply. To a change of placement it has no answer.
 fn is_answer(tree: &PlainTree, call: &Call, reply: &Reply) -> Result<bool, Broken> {
     if let Op::Place { .. } = &call.op {
-        return Ok(*reply == Reply::Fine);
+        return Ok(true);
     }
     Ok(tree.answer(&call.cred, &call.op)? == *reply)
 }
@@ -59,11 +60,12 @@ fn wrong(alloc: Global, config: &Config, entries: &[Entry]) -> Result<u32, Broke
     Ok(count)
 }
 
-/// Each answer is that of the plain tree at its point, and the rows are those that the commits leave.
+/// Each answer is that of the plain tree at its point, or of the names that are placed, and the rows are those that the commits leave.
 pub fn judge(alloc: Global, cluster: &Cluster) -> Result<(), Broken> {
     let book = cluster.book();
     let entries = book.transcript()?;
     let count = wrong(alloc, book.config(), &entries)?;
+    let count = count.saturating_add(wrong_places(alloc, book.config(), &entries)?);
     if count > 0 {
         return Err(Broken::Answers(count));
     }

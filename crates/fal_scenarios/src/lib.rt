@@ -67,6 +67,10 @@ mod orders;
 #[cfg(test)]
 mod passed;
 #[cfg(test)]
+mod placed;
+#[cfg(test)]
+mod placing;
+#[cfg(test)]
 mod refused;
 #[cfg(test)]
 mod renames;

@@ -62,6 +62,18 @@ impl Reading {
         }
     }
 
+    // Lets the cluster go.
+    fn discard(self) {
+        let Reading {
+            alloc: _,
+            header: _header,
+            scene,
+        } = self;
+        if let Some(scene) = scene {
+            scene.discard();
+        }
+    }
+
     // What holds at the end of every scenario.
     fn close<R: Wait>(&self, rt: &R) -> Result<(), Broken> {
         let Some(scene) = &self.scene else {
@@ -107,7 +119,9 @@ fn run<'a, R: Wait>(rt: &R, alloc: Global, text: &'a str) -> Result<(), Stop<'a>
         header: Header::new(alloc),
         scene: None,
     };
-    read_all(rt, &mut reading, text)
+    let ended = read_all(rt, &mut reading, text);
+    reading.discard();
+    ended
 }
 
 /// Why the scenario does not hold, or `Holds`.

@@ -39,6 +39,19 @@ impl Scene {
         }
     }
 
+    /// Lets the cluster go.
+    pub fn discard(self) {
+        let Scene {
+            alloc: _,
+            cluster,
+            holds: _holds,
+            entries: _,
+            block: _block,
+            place: _,
+        } = self;
+        let _book = cluster.into_book();
+    }
+
     /// From now on the first such record waits.
     pub fn hold(&mut self, wanted: Wanted) -> Result<(), Broken> {
         self.holds.push(Hold { wanted, env: None })?;

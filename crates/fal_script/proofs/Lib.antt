@@ -1,3 +1,4 @@
+mod Colon
 pub mod FirstLine
 pub mod GoodPaths
 pub mod InRange

@@ -1,5 +1,5 @@
 -- The arguments of a call, word by word. What is no argument of its form breaks a rule.
-use Rattle.std.specs.Prelude.{ℕ, List, [], ◌∷◌, codes, if◌then◌else◌, ◌==◌, Option, Some, None, Result, Ok, Err}
+use Rattle.std.specs.Prelude.{◌≡◌, ℕ, List, [], ◌∷◌, codes, if◌then◌else◌, ◌==◌, Option, Some, None, Result, Ok, Err}
 use Rattle.std.specs.List.{slice_split}
 use Rattle.std.specs.Option.{option_and_then, option_map}
 use Rattle.fal_base.specs.declared.call.Cred.{Cred}
@@ -16,6 +16,11 @@ use Rattle.fal_script.specs.Words.{is_word}
 -- how many nodes or lanes: 1 to 16
 abbrev pub count_word : List ℕ → Option ℕ
 count_word word = number_from_one 16 word
+
+-- what stands before the first colon and what stands after it, or none where there is no colon
+abbrev pub Halves : List ℕ → Option (List ℕ × List ℕ) → Type 0
+Halves word None = slice_split (λ b. b == 58) word ≡ word ∷ []
+Halves word (Some (front, back)) = slice_split (λ b. b == 58) word ≡ front ∷ slice_split (λ b. b == 58) back
 
 -- two numbers up to 4,294,967,295 joined by one colon (58)
 abbrev pub cred_parts : List (List ℕ) → Option Cred

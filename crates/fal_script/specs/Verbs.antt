@@ -26,7 +26,6 @@ verb_word word =
 -- whether clusters serve the operation. One that they do not serve yet is none of the table
 abbrev pub is_served_verb : Verb → Bool
 is_served_verb verb.List = false
-is_served_verb verb.Place = false
 is_served_verb verb = true
 
 -- the operation, where it is served

@@ -1,6 +1,7 @@
-ghost use Rattle.std.specs.Prelude.{◌≡◌, ◌≤◌, ◌==◌, IfOk, map};
-ghost use Rattle.std.specs.List.{slice_split};
-ghost use Rattle.fal_script.specs.Arguments.{count_word as count_of, cred_parts as cred_parts_of, cred_word as cred_of, path_word as path_of, judged_name as judged_name_of, name_word as name_of, mode_word as mode_of, number_word as number_of, node_parts as node_parts_of, spelled_rule as spelled_rule_of, rule_word as rule_of};
+ghost use Rattle.std.specs.Prelude.{◌≡◌, ◌≤◌, ◌==◌, [], ◌∷◌, IfOk, map};
+ghost use Rattle.std.specs.List.{position, slice_split};
+ghost use Rattle.std.specs.Option.{option_map};
+ghost use Rattle.fal_script.specs.Arguments.{Halves, count_word as count_of, cred_parts as cred_parts_of, cred_word as cred_of, path_word as path_of, judged_name as judged_name_of, name_word as name_of, mode_word as mode_of, number_word as number_of, node_parts as node_parts_of, spelled_rule as spelled_rule_of, rule_word as rule_of};
 ghost use Rattle.fal_base.specs.Names.{name_of as name_of_bytes};
 ghost use Rattle.fal_script.specs.ReadAs.{ReadAs};
 
@@ -25,29 +26,46 @@ fn parts(alloc: Global, word: &[u8]) -> Result<Vec<&[u8]>, AllocError>
     word.split(|b| *b == b':').collect(alloc)
 }
 
-fn cred_parts(parts: &[&[u8]]) -> Option<Cred>
-    ensures { result ≡ cred_parts_of (map (λ w. w.now) parts.now) }
+// The place of the first colon.
+fn colon(word: &[u8]) -> Option<usize>
+    ensures { result ≡ position (λ b. b == 58) word.now }
 {
-    match parts {
-        [uid, gid] => {
-            let uid = number_up_to(4_294_967_295, uid)?;
-            let gid = number_up_to(4_294_967_295, gid)?;
-            Some(Cred {
-                uid: uid as u32,
-                gid: gid as u32,
-            })
+    word.iter().position(|b| *b == b':')
+}
+
+// What stands before the first colon and what stands after it, where there is one.
+fn halves(word: &[u8]) -> Option<(&[u8], &[u8])>
+    ensures { Halves word.now (option_map (λ p. (p.0.now, p.1.now)) result) }
+{
+    match colon(word) {
+        Some(at) => {
+            let (front, rest) = word.split_at(at);
+            let (_, back) = rest.split_at(1);
+            Some((front, back))
         }
-        _ => None,
+        None => None,
     }
 }
 
-/// The caller that a word names: two numbers joined by one colon.
-#[tactic(auto, unfolding(crate::specs::Arguments::cred_word))]
-pub fn cred_word(alloc: Global, word: &[u8]) -> Result<Option<Cred>, AllocError>
-    ensures { IfOk result (λ cred. cred ≡ cred_of word.now) }
+fn cred_of_halves(uid: &[u8], gid: &[u8]) -> Option<Cred>
+    ensures { result ≡ cred_parts_of (uid.now ∷ gid.now ∷ []) }
 {
-    let parts = parts(alloc, word)?;
-    Ok(cred_parts(&parts))
+    let uid = number_up_to(4_294_967_295, uid)?;
+    let gid = number_up_to(4_294_967_295, gid)?;
+    Some(Cred {
+        uid: uid as u32,
+        gid: gid as u32,
+    })
+}
+
+/// The caller that a word names: two numbers joined by one colon. Takes no memory.
+pub fn cred_word(word: &[u8]) -> Option<Cred>
+    ensures { result ≡ cred_of word.now }
+{
+    match halves(word) {
+        Some((uid, gid)) => cred_of_halves(uid, gid),
+        None => None,
+    }
 }
 
 /// The path that a word spells, good or bad.

@@ -174,7 +174,7 @@ pub fn call_words(alloc: Global, lanes: u8, words: &[&[u8]]) -> Result<ScriptCal
     match words {
         [lane, cred, verb, arguments @ ..] => {
             let lane = or_rule(number_from_one(lanes, lane), 6)?;
-            let cred = or_rule(cred_word(alloc, cred)?, 7)?;
+            let cred = or_rule(cred_word(cred), 7)?;
             let verb = or_rule(served_word(verb), 8)?;
             let op = op_words(alloc, verb, arguments)?;
             let call = Call { cred, op };

@@ -58,7 +58,7 @@ pub fn verb_word(word: &[u8]) -> Option<Verb>
 fn is_served(verb: Verb) -> bool
     ensures { result ≡ is_served_of verb }
 {
-    !matches!(verb, Verb::List | Verb::Place)
+    !matches!(verb, Verb::List)
 }
 
 /// The operation that a word names, where clusters serve it.

@@ -15,9 +15,13 @@ pub fn is_word(bytes: &[u8], word: &[u8]) -> bool
 pub fn words_of(alloc: Global, line: &[u8]) -> Result<Vec<&[u8]>, AllocError>
     ensures { IfOk result (λ words. map (λ w. w.now) words.items ≡ words_in line.now) }
 {
-    line.split(|b| *b == b' ' || *b == b'\t')
-        .filter(|part| !part.is_empty())
-        .collect(alloc)
+    // Nearly every line has at most eight words, so that one allocation holds them.
+    let mut words = Vec::with_capacity(alloc, 8)?;
+    let parts = line
+        .split(|b| *b == b' ' || *b == b'\t')
+        .filter(|part| !part.is_empty());
+    words.extend(parts)?;
+    Ok(words)
 }
 
 fn is_comment(word: &[u8]) -> bool

@@ -1,4 +1,5 @@
 pub mod AtStage
+pub mod BlockedHeard
 pub mod CallDone
 pub mod CallHeard
 pub mod Concludes
@@ -8,7 +9,10 @@ pub mod CountedHeard
 pub mod DoneHeard
 pub mod FoundHeard
 pub mod HearEvent
+pub mod InstalledHeard
 pub mod LockedHeard
+pub mod PlaceStart
+pub mod Placeable
 pub mod StartEvent
 pub mod Suited
 pub mod WalkStep

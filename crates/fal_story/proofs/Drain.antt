@@ -1,5 +1,7 @@
 pub mod Actors
 pub mod Answered
+pub mod Blocked
+pub mod ClientGoes
 pub mod Dues
 pub mod Follow
 pub mod FollowCall
@@ -22,6 +24,7 @@ pub mod MovingExec
 pub mod MovingGather
 pub mod MovingGot
 pub mod MovingHear
+pub mod MovingInstall
 pub mod MovingOrders
 pub mod MovingRuns
 pub mod MovingServe

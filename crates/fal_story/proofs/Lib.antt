@@ -2,6 +2,7 @@ pub mod Coordinator
 pub mod Drain
 pub mod Events
 pub mod Families
+pub mod Gathers
 pub mod Good
 pub mod Histories
 pub mod Lists

@@ -8,7 +8,6 @@ pub mod Decided
 pub mod Decides
 pub mod Executed
 pub mod Fetching
-pub mod Landing
 pub mod Learned
 pub mod Moved
 pub mod Outcomes

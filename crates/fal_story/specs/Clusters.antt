@@ -7,6 +7,8 @@ use Rattle.fal_base.specs.declared.op.Op.{Op}
 use Rattle.fal_base.specs.declared.op.Op.TheVariants as op
 use Rattle.fal_base.specs.declared.path.PathArg.{PathArg}
 use Rattle.fal_base.specs.declared.path.PathArg.TheVariants.{Good, Bad}
+use Rattle.fal_base.specs.declared.rule.Rule.{Rule}
+use Rattle.fal_base.specs.declared.rule.Rule.TheVariants as rule
 use Rattle.fal_base.specs.Names.{is_name}
 use Rattle.fal_base.specs.Paths.{path_bytes}
 use Rattle.fal_base.specs.Transcript.{numbered}
@@ -15,7 +17,7 @@ use Rattle.fal_base.specs.PathArgs.{IsRead}
 use Rattle.fal_wire.specs.Numbers.{cred_field}
 use Rattle.fal_wire.specs.Ops.{op_field}
 
--- the operations that are built: all but listings and placing
+-- the operations that are built: all but listings
 abbrev pub is_served : Op → Bool
 is_served (op.Mkdir path mode) = true
 is_served (op.Create path mode) = true
@@ -27,6 +29,7 @@ is_served (op.Chmod path mode) = true
 is_served (op.Chown path uid gid) = true
 is_served (op.Rmdir path) = true
 is_served (op.Rename old new) = true
+is_served (op.Place name rule) = true
 is_served other = false
 
 -- the call is served, a bad path has the fault of its bytes, and where its path is good a record can hold the call
@@ -40,6 +43,12 @@ abbrev pub IsPathInRange : PathArg → Type 0
 IsPathInRange (Good names) = IsTrue (list_all is_name names) × (path_bytes names ≤ 4095)
 IsPathInRange (Bad fault raw) = IsRead (Bad fault raw)
 
+-- the number of a node has 16 bits, whether that node is there or not
+abbrev pub IsRuleInRange : Rule → Type 0
+IsRuleInRange rule.Hash = Unit {0}
+IsRuleInRange rule.ByParent = Unit {0}
+IsRuleInRange (rule.Node node) = node < 2 ^ 16
+
 -- the operation is served, its paths are such ones, and its numbers are in range
 abbrev pub IsOpInRange : Op → Type 0
 IsOpInRange (op.Mkdir path mode) = IsPathInRange path × (mode < 512)
@@ -52,6 +61,7 @@ IsOpInRange (op.Chmod path mode) = IsPathInRange path × (mode < 512)
 IsOpInRange (op.Chown path uid gid) = IsPathInRange path × (uid < 2 ^ 32) × (gid < 2 ^ 32)
 IsOpInRange (op.Rmdir path) = IsPathInRange path
 IsOpInRange (op.Rename old new) = IsPathInRange old × IsPathInRange new
+IsOpInRange (op.Place name rule) = IsTrue (is_name name) × IsRuleInRange rule
 IsOpInRange other = ⊥
 
 -- the same in numbers: the call is served, and its paths and its numbers are in range

@@ -5,14 +5,14 @@ ghost use Rattle.fal_base.specs.declared.call.Call.{Call as CallSeen};
 ghost use Rattle.fal_base.specs.declared.op.Op.TheVariants as Op;
 ghost use Rattle.fal_base.specs.OpPaths.{bad_path, fault_of, paths_of};
 ghost use Rattle.fal_base.specs.PathArgs.{IsRead};
-ghost use Rattle.fal_story.specs.Clusters.{IsCall, IsCluster, IsCallInRange, is_served};
+ghost use Rattle.fal_story.specs.Clusters.{IsCall, IsCluster, IsCallInRange, IsRuleInRange, is_served};
 ghost use Rattle.fal_base.specs.Names.{is_name as is_name_of};
 ghost use Rattle.fal_base.specs.Paths.{path_bytes};
 ghost use Rattle.fal_wire.specs.Names.{path_arg_field, path_field};
 ghost use Rattle.fal_wire.specs.Ops.{op_field};
 ghost use Rattle.fal_story.specs.Held.{ArePathsHeld};
 
-use fal_base::{Call, CallList, Config, Cred, Name, Op, PathArg};
+use fal_base::{Call, CallList, Config, Cred, Name, Op, PathArg, Rule};
 
 /// A size is below this.
 const SIZES: u64 = 1 << 63;
@@ -100,6 +100,24 @@ fn is_chown(path: &PathArg, uid: u32, gid: u32) -> bool
     is_held(path, true)
 }
 
+// Whether the number of the node that the rule names is as wide as its field.
+fn is_rule(rule: &Rule) -> bool
+    ensures { IsTrue result ↔ IsRuleInRange rule.now }
+{
+    match rule {
+        Rule::Hash => true,
+        Rule::ByParent => true,
+        Rule::Node(node) => u32::from(*node) < 65_536,
+    }
+}
+
+// Whether a record can hold the name and the rule.
+fn is_placing(name: &Name, rule: &Rule) -> bool
+    ensures { IsTrue result ↔ IsTrue (is_name_of name.now) × IsRuleInRange rule.now }
+{
+    is_name(name.bytes()) && is_rule(rule)
+}
+
 // Whether the operation is served, a bad path has the fault of its bytes, and a record can hold the operation where its path is good.
 fn is_op(op: &Op) -> bool
     ensures { IsTrue result ↔ IsTrue (is_served op.now) × All IsRead (paths_of op.now) × (bad_path op.now ≡ None → op_field.Fits op.now) }
@@ -116,7 +134,7 @@ fn is_op(op: &Op) -> bool
         Op::Rmdir { path } => is_held(path, true),
         Op::Rename { old, new } => are_held(old, new),
         Op::List { .. } => false,
-        Op::Place { .. } => false,
+        Op::Place { name, rule } => is_placing(name, rule),
     }
 }
 
@@ -170,7 +188,7 @@ fn is_few(count: usize) -> bool
 }
 
 /// Whether the cluster may run: 1 to 16 nodes, 1 to 16 lanes, batches of 1 to 64 calls and at most 10,000 calls, each of any
-/// operation but list and place. A bad path has the fault of its bytes, and where the paths are good a record can hold the call (a mode of
+/// operation but list. A bad path has the fault of its bytes, and where the paths are good a record can hold the call (a mode of
 /// nine bits, a `want` of three, a size below 2^63, and at most 4,095 bytes of names in a path, each with the slash before it). Takes no
 /// memory.
 pub fn may_run(config: &Config) -> bool

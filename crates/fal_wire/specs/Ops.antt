@@ -1,6 +1,8 @@
 -- Operations with their arguments, and calls on their way.
 use Rattle.std.specs.Prelude.{ℕ, List, [], ◌∷◌}
+use Rattle.fal_base.specs.declared.call.CallId.{CallId}
 use Rattle.fal_base.specs.declared.call.CallRec.{CallRec}
+use Rattle.fal_base.specs.declared.call.Cred.{Cred}
 use Rattle.fal_base.specs.declared.op.Op.{Op}
 use Rattle.fal_base.specs.declared.op.Op.TheVariants as op
 use Rattle.fal_base.specs.declared.path.PathArg.{PathArg}
@@ -61,6 +63,10 @@ op_branches =
 
 unfoldable pub op_field : Format Op
 op_field = tagged op_layout op_branches
+
+-- a call on its way, of its parts
+abbrev pub call_rec : CallId → Cred → ℕ → Op → CallRec
+call_rec id cred version op = record { id = id; cred = cred; version = version; op = op }
 
 -- id, cred, the table's version, the operation
 unfoldable pub call_field : Format CallRec

@@ -21,7 +21,7 @@ pub use encoding::encode;
 use fal_base::{Items, Key, NamedRow, RuleChange, Update};
 pub use fault::WireFault;
 pub use law::spelling_laws;
-pub use letter::{Letter, spelled};
+pub use letter::{Letter, spelled, spelled_call};
 pub use message::{Found, Message};
 
 /// Keys, as a lock names them.

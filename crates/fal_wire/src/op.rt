@@ -2,7 +2,7 @@
 
 ghost use Rattle.std.specs.Prelude.{◌≡◌, ◌++◌, OnOk};
 ghost use Rattle.fal_wire.specs.Gives.{Gives};
-ghost use Rattle.fal_wire.specs.Ops.{path_and_mode, path_and_want, path_and_owner, path_and_size, two_paths, name_and_rule, op_layout, op_field, call_field};
+ghost use Rattle.fal_wire.specs.Ops.{path_and_mode, path_and_want, path_and_owner, path_and_size, two_paths, name_and_rule, op_layout, op_field, call_field, call_rec};
 ghost use Rattle.fal_wire.specs.Format.{content_spelling, ContentFits};
 
 use crate::fault::Stop;
@@ -12,7 +12,7 @@ use crate::number::{
     read_size, read_u8, read_u32, read_want,
 };
 use crate::row::{put_rule, read_rule};
-use fal_base::{CallRec, Name, Op, OutOfMemory, PathArg, Rule};
+use fal_base::{CallId, CallRec, Cred, Name, Op, OutOfMemory, PathArg, Rule};
 use std::alloc::Global;
 
 #[tactic(auto, unfolding(crate::specs::Ops::path_and_mode))]
@@ -285,14 +285,29 @@ fn put_op(into: &mut Vec<u8>, op: &Op) -> Result<(), OutOfMemory>
     Ok(())
 }
 
+// A call, by its parts.
 #[tactic(auto, unfolding(crate::specs::Ops::call_field))]
+pub fn put_call_of(
+    into: &mut Vec<u8>,
+    id: &CallId,
+    cred: &Cred,
+    version: u32,
+    op: &Op,
+) -> Result<(), OutOfMemory>
+    requires { call_field.Fits (call_rec id.now cred.now version op.now) }
+    ensures { OnOk result (into.new.items ≡ into.old.items ++ call_field.spell (call_rec id.now cred.now version op.now)) }
+{
+    put_id(into, id)?;
+    put_cred(into, cred)?;
+    put_u32(into, version)?;
+    put_op(into, op)?;
+    Ok(())
+}
+
 pub fn put_call(into: &mut Vec<u8>, call: &CallRec) -> Result<(), OutOfMemory>
     requires { call_field.Fits call.now }
     ensures { OnOk result (into.new.items ≡ into.old.items ++ call_field.spell call.now) }
 {
-    put_id(into, &call.id)?;
-    put_cred(into, &call.cred)?;
-    put_u32(into, call.version)?;
-    put_op(into, &call.op)?;
+    put_call_of(into, &call.id, &call.cred, call.version, &call.op)?;
     Ok(())
 }

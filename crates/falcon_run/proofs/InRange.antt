@@ -10,14 +10,16 @@ use Rattle.fal_base.specs.declared.op.Op.{Op}
 use Rattle.fal_base.specs.declared.op.Op.TheVariants as op
 use Rattle.fal_base.specs.declared.path.PathArg.{PathArg}
 use Rattle.fal_base.specs.declared.path.PathFault.{PathFault}
+use Rattle.fal_base.specs.declared.rule.Rule.{Rule}
+use Rattle.fal_base.specs.declared.rule.Rule.TheVariants as rule
 use Rattle.fal_base.specs.PathArgs.{arg_of, err_of}
 use Rattle.fal_base.specs.Paths.{path_of}
 use Rattle.fal_script.specs.Configs.{lane_calls}
-use Rattle.fal_script.specs.Ranges.{IsSpelledScript, IsSpelled, IsSpelledCall, IsSpelledOp}
+use Rattle.fal_script.specs.Ranges.{IsSpelledScript, IsSpelled, IsSpelledCall, IsSpelledOp, IsSpelledRule}
 use Rattle.fal_script.specs.Verbs.{is_served_verb, verb_of}
 use Rattle.fal_script.specs.declared.script.Script.{Script}
 use Rattle.fal_script.specs.declared.script.ScriptCall.{ScriptCall}
-use Rattle.fal_story.specs.Clusters.{IsCall, IsCluster, IsCallInRange, IsOpInRange, IsPathInRange}
+use Rattle.fal_story.specs.Clusters.{IsCall, IsCluster, IsCallInRange, IsOpInRange, IsPathInRange, IsRuleInRange}
 use Rattle.falcon_run.specs.Headline.{cluster_of}
 use Rattle.fal_script.proofs.GoodPaths.{good_path}
 use Rattle.falcon_run.proofs.ScriptLanes.{few_calls}
@@ -31,6 +33,11 @@ read_in_range word (Ok names) is = let good = good_path word names is in let sho
 path_in_range : (path : PathArg) → IsSpelled path → IsPathInRange path
 path_in_range path (word, is) = subst IsPathInRange (sym is) (read_in_range word (path_of word) refl)
 
+rule_in_range : (rule : Rule) → IsSpelledRule rule → IsRuleInRange rule
+rule_in_range rule.Hash is = tt
+rule_in_range rule.ByParent is = tt
+rule_in_range (rule.Node node) is = is
+
 op_in_range : (o : Op) → IsSpelledOp o → is_served_verb (verb_of o) ≡ true → IsOpInRange o
 op_in_range (op.Mkdir path mode) is served = (path_in_range path is.0, is.1)
 op_in_range (op.Create path mode) is served = (path_in_range path is.0, is.1)
@@ -43,7 +50,7 @@ op_in_range (op.Unlink path) is served = path_in_range path is
 op_in_range (op.Rmdir path) is served = path_in_range path is
 op_in_range (op.Rename old new) is served = (path_in_range old is.0, path_in_range new is.1)
 op_in_range (op.List path) is served = absurd (cc)
-op_in_range (op.Place name rule) is served = absurd (cc)
+op_in_range (op.Place name rule) is served = (is.0, rule_in_range rule is.1)
 
 call_in_range : (call : Call) → IsSpelledCall call → IsCallInRange call
 call_in_range call is = record { uid = is.uid; gid = is.gid; op = op_in_range call.op is.op is.served }

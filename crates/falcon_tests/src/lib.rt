@@ -8,6 +8,8 @@ mod operations;
 #[cfg(test)]
 mod outputs;
 #[cfg(test)]
+mod rules;
+#[cfg(test)]
 mod running;
 #[cfg(test)]
 mod statuses;

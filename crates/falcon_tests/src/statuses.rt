@@ -87,7 +87,7 @@ fn words_have_their_status(rt: HostRuntime) -> Result<(), Fail> {
 type Faulty = (&'static [u8], u32, u8);
 
 // After a whole header, which has three lines.
-const CALLS: [Faulty; 24] = [
+const CALLS: [Faulty; 28] = [
     (b"1 0:0\n", 4, 5),
     (b"1\n", 4, 5),
     (b"2 0:0 stat /a\n", 4, 6),
@@ -110,6 +110,10 @@ const CALLS: [Faulty; 24] = [
     (b"1 0:0 create /a 8\n", 4, 11),
     (b"1 0:0 access /a 8\n", 4, 11),
     (b"1 0:0 truncate /a 9223372036854775808\n", 4, 11),
+    (b"1 0:0 place  hash\n", 4, 9),
+    (b"1 0:0 place .. hash\n", 4, 12),
+    (b"1 0:0 place a%2Fb hash\n", 4, 12),
+    (b"1 0:0 place a node:65536\n", 4, 13),
     // lines that are skipped count, too
     (b"# none\n\n \t\n1 0:0 stat /a\n1 0:0\n1\n", 8, 5),
     // a line ends with a line feed alone

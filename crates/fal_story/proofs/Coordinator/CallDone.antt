@@ -43,7 +43,6 @@ module _ (call : ℕ → CallRec) (phase : ℕ → Phase) (l k : ℕ) (reply : R
   done_heard config a c heard = record {
     lane = heard.lane;
     nodes = heard.nodes;
-    table = heard.table;
     left = heard.left;
     none = λ e. let idle = heard.none e in put_other phase l done a (λ same. let both = ap phase same ∙ runs in absurd (cc)) ∙ idle;
     some = λ current e. let x = heard.some current e in ((λ idle. ⊎_elim (λ here. absurd (cc)) (λ there. x.0 there.1) (from_put phase l done a Idle idle)), x.1, x.2, x.3);

@@ -16,7 +16,7 @@ use Rattle.fal_story.proofs.Coordinator.CoordMoves.{IsThere, moved_heard, moved_
 use Rattle.fal_story.proofs.Events.Besides.{StaysThere, hosts_kept}
 use Rattle.fal_story.proofs.Events.GotEvent.{AllFit}
 use Rattle.fal_story.proofs.Events.InCoord.{EndsCoord, coord_ends, view_started}
-use Rattle.fal_story.proofs.Events.Shows.{Ghost, Shows, WaitsThere, calls_in, posts_of, view_of}
+use Rattle.fal_story.proofs.Events.Shows.{Ghost, Shows, WaitsThere, calls_in, posts_of, view_of, before_in}
 use Rattle.fal_story.proofs.Good.{Good}
 use Rattle.fal_story.proofs.Lists.Each.{Each, each_join, each_weaker}
 use Rattle.fal_story.proofs.Lists.Grown.{put_all, put_put, put_same}
@@ -50,7 +50,7 @@ takes config w h e p c shown posted fit operation newer =
     let unplanned : (n : ℕ) (x : BatchCall) → Waits 255 None ≢ Plans n x = λ n x z. cc in
     let stay : (a : ℕ) → StaysThere h.call h.call h.phase later.phase a = put_all (λ a q. ((q ≡ h.phase a) × (h.call a ≡ h.call a)) ⊎ ((IsHeld 255 (h.phase a) → ⊥) × (h.phase a ≢ Runs))) h.phase l (Waits 255 None)
     (inr ((λ held. subst (IsHeld 255) asked.1 held), (λ runs. let both = sym asked.1 ∙ runs in absurd (cc)))) (λ a _. inl (refl, refl)) in
-    let hosts = hosts_kept h.call h.call h.phase later.phase stay config h.before w.coord shown.good.operation.running shown.beside.hosts in
+    let hosts = hosts_kept h.call h.call h.phase later.phase stay config (before_in config h) w.coord shown.good.operation.running shown.beside.hosts in
     let others : Each (λ (k : CallRec). k.id.client ≢ l) w.coord.waiting = each_weaker (WaitsThere h.call h.phase) (λ (k : CallRec). k.id.client ≢ l) w.coord.waiting
     (λ k waits same. let both = sym asked.1 ∙ ap h.phase (sym same) ∙ waits.0 in absurd (cc)) shown.beside.hosts.waiters in (
       later,
@@ -62,10 +62,10 @@ takes config w h e p c shown posted fit operation newer =
           queues = shown.beside.queues;
           holding = λ n. moved_holds h.call h.phase l (Waits 255 None) at_seat busy unplanned h.crossed h.crossed (λ a _. refl) n (w.nodes n) (shown.beside.holding n);
           hosts = record {
-            table = hosts.table;
             waiters = each_join (WaitsThere h.call later.phase) w.coord.waiting (c ∷ []) hosts.waiters ((put_same h.phase l (Waits 255 None), asked.0, operation), tt);
             apart = apart_push (λ (k : CallRec). k.id.client) w.coord.waiting c others hosts.apart;
             current = hosts.current;
+            numbered = hosts.numbered;
           };
         };
       }),

@@ -1,6 +1,6 @@
 -- The coordinator comes to the end of its operation, with a commit or without one: it tells each node the updates, and the client the answer.
 use Rattle.std.proofs.Common.{◌≡◌, ◌≢◌, inl, inr, ℕ, zero, suc, ◌+◌, ◌≤◌, ◌<◌, true, false, List, [], ◌∷◌, ◌++◌, length, None, refl, sym, ap, ◌∙◌, subst, arith, append-nil}
-use Rattle.std.specs.List.{All, range_with_len}
+use Rattle.std.specs.List.{All}
 use Rattle.fal_base.specs.declared.call.CallRec.{CallRec}
 use Rattle.fal_base.specs.declared.call.Config.{Config}
 use Rattle.fal_base.specs.declared.entry.Entry.{Entry}
@@ -30,16 +30,16 @@ use Rattle.fal_wire.specs.Letters.{letter, reply_letter}
 use Rattle.fal_wire.specs.Messages.{Fits}
 use Rattle.fal_story.proofs.Coordinator.AtStage.{seen}
 use Rattle.fal_story.proofs.Coordinator.CallDone.{done_heard, done_held, done_holds, done_waiters}
-use Rattle.fal_story.proofs.Coordinator.CoordSends.{IsFineHere, coord_sends_all}
+use Rattle.fal_story.proofs.Coordinator.CoordSends.{IsFineHere, coord_sends_all, fine_nodes}
 use Rattle.fal_story.proofs.Events.Doing.{awaited, work_of}
 use Rattle.fal_story.proofs.Events.InCoord.{InCoord, EndsCoord, coord_ends, view_at}
-use Rattle.fal_story.proofs.Events.Shows.{Ghost, Shows, askings_of, calls_in, posts_of}
+use Rattle.fal_story.proofs.Events.Shows.{Ghost, Shows, askings_of, calls_in, posts_of, before_in}
+use Rattle.fal_story.proofs.Events.Tables.{coord_nodes, numbered_few}
 use Rattle.fal_story.proofs.Families.Lanes.{positive}
 use Rattle.fal_story.proofs.Families.OperationEnds.{IsReady, ready_of}
 use Rattle.fal_story.proofs.Good.{Good}
-use Rattle.fal_story.proofs.Lists.Each.{Each, each_always, each_join}
+use Rattle.fal_story.proofs.Lists.Each.{Each, each_join}
 use Rattle.fal_story.proofs.Lists.Grown.{put_put, put_same}
-use Rattle.fal_story.proofs.Lists.Members.{each_map}
 use Rattle.fal_story.proofs.Phase.{Idle, Tells, Replies, Runs}
 use Rattle.fal_story.proofs.Steps.Carried.{dropped_good, dropped_none}
 use Rattle.fal_story.proofs.Steps.Decided.{IsDecided, decided_commit, decided_good, ended_good}
@@ -54,7 +54,7 @@ some_below (suc nodes) some none = cc
 
 -- the operation stands at a stage in which every node was heard
 module _ (config : Config) (w : World) (h : Ghost) (s : Stage) (operation : Operation) (cluster : IsCluster config) (shown : Shows config w h)
-    (ready : IsReady (work_of h.before s) operation.call.id.client operation.keys) (quiet : awaited s ≡ []) (is : operation.call ≡ h.call operation.call.id.client)
+    (ready : IsReady (work_of (before_in config h) s) operation.call.id.client operation.keys) (quiet : awaited s ≡ []) (is : operation.call ≡ h.call operation.call.id.client)
     (good : Good config (seen config w (at_stage w.coord s) h)) where
   abbrev l : ℕ
   l = operation.call.id.client
@@ -73,7 +73,7 @@ module _ (config : Config) (w : World) (h : Ghost) (s : Stage) (operation : Oper
   dropped_off key among = ap (λ r. value_at r key) (put_same before.replica 255 (without_keys w.coord.replica operation.keys)) ∙ dropped_none config before w.coord.replica operation.keys key among
 
   runs : h.phase l ≡ Runs
-  runs = good.operation.running l (ready_of (work_of h.before s) l operation.keys ready)
+  runs = good.operation.running l (ready_of (work_of (before_in config h) s) l operation.keys ready)
 
   busy : h.phase l ≢ Idle
   busy idle = let both = sym idle ∙ runs in absurd (cc)
@@ -107,7 +107,7 @@ module _ (config : Config) (w : World) (h : Ghost) (s : Stage) (operation : Oper
         → Good config (after due entries commits) → InCoord config w noted (later reply due)
     concluded due entries commits as_noted as_made fine =
         let hosts = shown.beside.hosts in
-        let nodes : w.coord.table.nodes ≡ config.nodes = ap (λ t. t.nodes) hosts.table in
+        let nodes = coord_nodes config w h shown in
         let some = cluster.some_nodes in
         record {
           good = subst (Good config) same fine;
@@ -117,10 +117,10 @@ module _ (config : Config) (w : World) (h : Ghost) (s : Stage) (operation : Oper
             queues = shown.beside.queues;
             holding = λ n. done_holds h.call h.phase l (length w.commits) reply runs h.crossed n (w.nodes n) (shown.beside.holding n);
             hosts = record {
-              table = hosts.table;
               waiters = done_waiters h.call h.phase l (length w.commits) reply runs w.coord.waiting hosts.waiters;
               apart = hosts.apart;
               current = some_below w.coord.table.nodes (omega arith);
+              numbered = numbered_few config w h shown;
             };
           };
         }
@@ -132,7 +132,7 @@ module _ (config : Config) (w : World) (h : Ghost) (s : Stage) (operation : Oper
           posts = sym (append-nil (posts_of w.envelopes)) i;
           entries = as_noted i;
           commits = as_made i;
-          op = record (view_at config w noted (later reply due)).op { work = Ends operation.keys updates (numbers_below (ap (λ t. t.nodes) (sym shown.beside.hosts.table) i)) };
+          op = record (view_at config w noted (later reply due)).op { work = Ends operation.keys updates (numbers_below (sym (coord_nodes config w h shown) i)) };
         }
 
     fine_commit : (due : ℕ → List Update) (n : ℕ) → IsFineHere config w noted (later reply due) (letter (Node n) (Here 0) (message.Commit w.coord.operation updates))
@@ -152,8 +152,7 @@ module _ (config : Config) (w : World) (h : Ghost) (s : Stage) (operation : Oper
         let commits = to_nodes w.coord.table.nodes (message.Commit w.coord.operation updates) in
         let answer = reply_letter operation.call (Here 0) reply in
         let fine : Each (IsFineHere config w noted (later reply due)) (commits ++ answer ∷ []) = each_join (IsFineHere config w noted (later reply due)) commits (answer ∷ [])
-        (each_map (IsFineHere config w noted (later reply due)) (λ (n : ℕ). letter (Node n) (Here 0) (message.Commit w.coord.operation updates)) (range_with_len 0 w.coord.table.nodes)
-        (each_always (λ (n : ℕ). IsFineHere config w noted (later reply due) (letter (Node n) (Here 0) (message.Commit w.coord.operation updates))) (fine_commit due) (range_with_len 0 w.coord.table.nodes)))
+        (fine_nodes config w noted (later reply due) (λ (n : ℕ). letter (Node n) (Here 0) (message.Commit w.coord.operation updates)) w.coord.table.nodes (λ n _. fine_commit due n))
         (fine_reply due, tt) in
         (later reply due, coord_ends config w h (decided w.coord operation updates notes reply) (later reply due) fit shown (coord_sends_all config w noted (later reply due) (commits ++ answer ∷ []) fine step))
 

@@ -38,10 +38,10 @@ module _ (call : ℕ → CallRec) (phase : ℕ → Phase) (l : ℕ) (q : Phase) 
   later = put phase l q
 
   waits_kept : (n : ℕ) (x : WaitingCall) → WaitsAt call phase n x → WaitsAt call later n x
-  waits_kept n x at = (put_other phase l q (lane_of x) (λ same. at.2 (subst IsThere (ap phase (sym same) ∙ at.0) there)) ∙ at.0, at.1, at.2)
+  waits_kept n x at = (put_other phase l q (lane_of x) (λ same. at.2 (subst IsThere (ap phase (sym same) ∙ at.0) there)) ∙ at.0, at.1, at.2, at.3)
 
   plans_kept : (n : ℕ) (x : BatchCall) → PlannedAt call phase n x → PlannedAt call later n x
-  plans_kept n x at = (put_other phase l q (planned_lane x) (λ same. subst IsThere (ap phase (sym same) ∙ at.0) there) ∙ at.0, at.1)
+  plans_kept n x at = (put_other phase l q (planned_lane x) (λ same. subst IsThere (ap phase (sym same) ∙ at.0) there) ∙ at.0, at.1, at.2)
 
   pub moved_held : (n : ℕ) (ws : List WaitingCall) (ps : List BatchCall) → Held call phase n ws ps → Held call later n ws ps
   moved_held n ws ps held = record {

@@ -1,5 +1,6 @@
 -- Letters are sent in a step of the coordinator under way.
-use Rattle.std.proofs.Common.{◌≡◌, List, [], ◌∷◌, ◌++◌, length, sym, subst, append-nil, append_assoc}
+use Rattle.std.proofs.Common.{◌≡◌, ℕ, zero, suc, ◌+◌, ◌<◌, List, [], ◌∷◌, ◌++◌, length, map, sym, subst, append-nil, append_assoc, arith}
+use Rattle.std.specs.List.{range_with_len}
 use Rattle.fal_base.specs.declared.call.Config.{Config}
 use Rattle.fal_coord.specs.State.{Work}
 use Rattle.fal_wire.specs.declared.letter.Letter.{Letter}
@@ -9,6 +10,7 @@ use Rattle.fal_story.proofs.Events.Sends.{posts_push}
 use Rattle.fal_story.proofs.Events.Shows.{Ghost, posts_of}
 use Rattle.fal_story.proofs.Good.{Good}
 use Rattle.fal_story.proofs.Lists.Each.{Each, each_weaker}
+use Rattle.fal_story.proofs.Lists.Members.{each_map}
 use Rattle.fal_story.proofs.Steps.Posted.{IsFine, posted_good}
 use Rattle.fal_story.proofs.View.{seat}
 use Rattle.fal_story.specs.World.{World, point_of}
@@ -44,3 +46,13 @@ coord_sends_all config w k h (letter ∷ letters) fine s =
     let rest = each_weaker (IsFineHere config w k h) (IsFineHere config w (record k { sent = more }) h) letters (λ l x. fine_more config w k h more l x) fine.1 in
     subst (λ sent. InCoord config w (record k { sent = sent }) h) (append_assoc k.sent (letter ∷ []) letters)
     (coord_sends_all config w (record k { sent = more }) h letters rest (coord_sends config w k h letter fine.0 s))
+
+-- numbers from the first on are below the end
+each_below : (nodes from count : ℕ) → from + count ≡ nodes → Each (λ n. n < nodes) (range_with_len from count)
+each_below nodes from zero end = tt
+each_below nodes from (suc count) end = (omega arith, each_below nodes (from + 1) count (omega arith))
+
+-- letters to the nodes, of which each is fine
+pub fine_nodes : (config : Config) (w : World) (k : Work) (h : Ghost) (f : ℕ → Letter) (nodes : ℕ) → ((n : ℕ) → n < nodes → IsFineHere config w k h (f n)) → Each (IsFineHere config w k h) (map f (range_with_len 0 nodes))
+fine_nodes config w k h f nodes fine = each_map (IsFineHere config w k h) f (range_with_len 0 nodes)
+    (each_weaker (λ n. n < nodes) (λ n. IsFineHere config w k h (f n)) (range_with_len 0 nodes) fine (each_below nodes 0 nodes (omega arith)))

@@ -89,7 +89,7 @@ module _ (config : Config) (w : World) (h : Ghost) (e p number node count : ℕ)
         let hosts = hosts_at config w h shown (stage.Count operation rows dir updates missing counts) at in
         let current = hosts.current in
         stays_at config w h shown (at_stage w.coord (stage.Count operation rows dir updates (n ∷ left) more)) good
-        (record { table = hosts.table; waiters = hosts.waiters; apart = hosts.apart; current = (current.0, current.1, (λ none. cc), current.3) })
+        (record { waiters = hosts.waiters; apart = hosts.apart; current = (current.0, current.1, (λ none. cc), current.3); numbered = hosts.numbered })
 
     hears : number ≡ w.coord.operation → AllFit (count_heard w.coord operation rows dir updates more (without_node node missing)).sent
         → EndsCoord config w (count_heard w.coord operation rows dir updates more (without_node node missing))
@@ -120,6 +120,8 @@ module _ (config : Config) (w : World) (h : Ghost) (e p number node count : ℕ)
         | false ↦ λ _ _. stays config w h shown
       ] refl fit
   counted_at (stage.Finish keys updates missing) at fit = stays config w h shown
+  counted_at (stage.Block call missing given) at fit = stays config w h shown
+  counted_at (stage.Install call missing) at fit = stays config w h shown
 
 pub counted_heard : (config : Config) (w : World) (h : Ghost) (e p number node count : ℕ) → IsCluster config → Shows config w h → IsPosted (posts_of w.envelopes) e (Node 255) p (message.Counted number node count)
     → AllFit (take_counted w.coord number node count w.coord.stage).sent → EndsCoord config w (take_counted w.coord number node count w.coord.stage)

@@ -27,10 +27,10 @@ module _ (config : Config) (w : World) (h : Ghost) (e p number node : ℕ) (show
         let hosts = hosts_at config w h shown (stage.Finish keys updates missing) at in
         let coord = at_stage w.coord (stage.Finish keys updates []) in
         let rested = rested_good config (seen config w coord h) keys updates refl good in
-        stays_at config w h shown (at_stage w.coord stage.Idle) rested (record { table = hosts.table; waiters = hosts.waiters; apart = hosts.apart; current = tt })
+        stays_at config w h shown (at_stage w.coord stage.Idle) rested (record { waiters = hosts.waiters; apart = hosts.apart; current = tt; numbered = hosts.numbered })
     finishes (n ∷ left) good =
         let hosts = hosts_at config w h shown (stage.Finish keys updates missing) at in
-        stays_at config w h shown (at_stage w.coord (stage.Finish keys updates (n ∷ left))) good (record { table = hosts.table; waiters = hosts.waiters; apart = hosts.apart; current = λ none. cc })
+        stays_at config w h shown (at_stage w.coord (stage.Finish keys updates (n ∷ left))) good (record { waiters = hosts.waiters; apart = hosts.apart; current = λ none. cc; numbered = hosts.numbered })
 
     hears : number ≡ w.coord.operation → EndsCoord config w (begun (at_stage w.coord (finish_at keys updates (without_node node missing))))
     hears same =
@@ -44,6 +44,8 @@ module _ (config : Config) (w : World) (h : Ghost) (e p number node : ℕ) (show
   done_at (stage.Walk call awaited key) at = stays config w h shown
   done_at (stage.Lock operation missing rows) at = stays config w h shown
   done_at (stage.Count operation rows dir updates missing counts) at = stays config w h shown
+  done_at (stage.Block call missing given) at = stays config w h shown
+  done_at (stage.Install call missing) at = stays config w h shown
   done_at (stage.Finish keys updates missing) at =
       elim ((number == w.coord.operation) && is_missing node missing) as (λ b. ((number == w.coord.operation) && is_missing node missing) ≡ b
       → EndsCoord config w (begun (cond b (at_stage w.coord (finish_at keys updates (without_node node missing))) w.coord))) [

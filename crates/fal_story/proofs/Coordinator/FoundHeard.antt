@@ -30,6 +30,7 @@ use Rattle.fal_story.proofs.Coordinator.Walking.{IsWalking, gives_up, walking}
 use Rattle.fal_story.proofs.Events.GotEvent.{AllFit, file_found, none_found}
 use Rattle.fal_story.proofs.Events.InCoord.{EndsCoord}
 use Rattle.fal_story.proofs.Events.Shows.{Ghost, Shows, WaitsThere, askings_of, calls_in, posts_of}
+use Rattle.fal_story.proofs.Events.Tables.{coord_nodes, numbered_few}
 use Rattle.fal_story.proofs.Families.Asking.{IsOpened}
 use Rattle.fal_story.proofs.Families.Clear.{IsShut}
 use Rattle.fal_story.proofs.Good.{Good}
@@ -61,13 +62,13 @@ learns config w coord h c key dentry few is s =
       heard = s.heard;
       queues = s.queues;
       holding = s.holding;
-      table = s.table;
       waiters = s.waiters;
       apart = s.apart;
       others = s.others;
       is = s.is;
       waits = s.waits;
-      operation = s.operation;
+      nodes = s.nodes;
+      numbered = s.numbered;
     }
 
 module _ (config : Config) (w : World) (h : Ghost) (e p number : ℕ) (key : Key) (cluster : IsCluster config) (shown : Shows config w h) where
@@ -110,13 +111,13 @@ module _ (config : Config) (w : World) (h : Ghost) (e p number : ℕ) (key : Key
           heard = moved_heard h.call h.phase l (Waits 255 None) there busy unplanned config w shown.heard;
           queues = shown.beside.queues;
           holding = λ n. moved_holds h.call h.phase l (Waits 255 None) there busy unplanned h.crossed h.crossed (λ a _. refl) n (w.nodes n) (shown.beside.holding n);
-          table = hosts.table;
           waiters = moved_waiters h.call h.phase l (Waits 255 None) there busy unplanned w.coord.waiting others hosts.waiters;
           apart = hosts.apart;
           others = others;
           is = hosts.current.0;
           waits = put_same h.phase l (Waits 255 None);
-          operation = hosts.current.2;
+          nodes = coord_nodes config w h shown;
+          numbered = numbered_few config w h shown;
         }
 
     -- the fetch was opened after so many commits, and its answers are younger
@@ -143,7 +144,7 @@ module _ (config : Config) (w : World) (h : Ghost) (e p number : ℕ) (key : Key
         let posted_so = subst (λ q. IsPosted (posts_of w.envelopes) e (Node 255) p (message.FetchGot number q (found.Dir dentry))) key_is posted in
         let is = good_at.asking.found_dirs e 255 p 0 fetch dentry refl posted_so in
         walks_on config w (learned w.coord key dentry) later h c cluster shown
-        (learns config w w.coord later c key dentry (omega arith) (subst (λ q. HasDir (tree_now w.commits) q dentry) (sym key_is) is) walks) hosts.current.3 fit
+        (learns config w w.coord later c key dentry (omega arith) (subst (λ q. HasDir (tree_now w.commits) q dentry) (sym key_is) is) walks) hosts.current.2 hosts.current.3 fit
     found_now found.Nothing posted fit =
         let key_is = (opened.1.later e p key found.Nothing posted).0 in
         let was = good_at.asking.founds e 255 p number key found.Nothing posted in

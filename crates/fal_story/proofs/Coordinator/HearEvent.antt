@@ -16,10 +16,12 @@ use Rattle.fal_wire.specs.declared.message.Message.{Message}
 use Rattle.fal_wire.specs.declared.message.Message.TheVariants as message
 use Rattle.fal_wire.specs.Messages.{reading}
 use Rattle.fal_story.proofs.Coordinator.AtStage.{stays}
+use Rattle.fal_story.proofs.Coordinator.BlockedHeard.{blocked_heard}
 use Rattle.fal_story.proofs.Coordinator.CallHeard.{call_heard}
 use Rattle.fal_story.proofs.Coordinator.CountedHeard.{counted_heard}
 use Rattle.fal_story.proofs.Coordinator.DoneHeard.{done_heard}
 use Rattle.fal_story.proofs.Coordinator.FoundHeard.{found_heard}
+use Rattle.fal_story.proofs.Coordinator.InstalledHeard.{installed_heard}
 use Rattle.fal_story.proofs.Coordinator.LockedHeard.{locked_heard}
 use Rattle.fal_story.proofs.Events.DeliverEvent.{post_at}
 use Rattle.fal_story.proofs.Events.GotEvent.{AllFit}
@@ -46,9 +48,9 @@ message_heard config w h e p (message.Lock number keys) cluster shown posted fit
 message_heard config w h e p (message.Count number dir) cluster shown posted fit = stays config w h shown
 message_heard config w h e p (message.Commit number updates) cluster shown posted fit = stays config w h shown
 message_heard config w h e p (message.Block number name) cluster shown posted fit = stays config w h shown
-message_heard config w h e p (message.Blocked number from rows) cluster shown posted fit = stays config w h shown
+message_heard config w h e p (message.Blocked number node rows) cluster shown posted fit = blocked_heard config w h e p number node rows cluster shown posted fit
 message_heard config w h e p (message.Install number version rule rows) cluster shown posted fit = stays config w h shown
-message_heard config w h e p (message.Installed number from) cluster shown posted fit = stays config w h shown
+message_heard config w h e p (message.Installed number node) cluster shown posted fit = installed_heard config w h e p number node shown posted
 
 -- by what the bytes are read as
 read_heard : (config : Config) (w : World) (h : Ghost) (e p : ℕ) (r : Result Message WireFault) → IsCluster config → Shows config w h → slice_get (posts_of w.envelopes) e ≡ Some (record { to = Node 255; point = p; message = result_ok r })

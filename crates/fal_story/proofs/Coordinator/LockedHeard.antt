@@ -1,6 +1,5 @@
 -- The coordinator hears that a node has shut the keys of its operation, with its rows. With the last node it comes to the verdict.
 use Rattle.std.proofs.Common.{◌≡◌, ◌==◌, ℕ, Bool, true, false, ◌&&◌, List, [], ◌∷◌, ◌++◌, cond, refl, sym, ap, ◌∙◌, subst, arith}
-use Rattle.std.specs.List.{range_with_len}
 use Rattle.fal_base.specs.declared.call.Config.{Config}
 use Rattle.fal_base.specs.declared.call.Cred.{Cred}
 use Rattle.fal_base.specs.declared.event.Actor.TheVariants.{Node}
@@ -27,15 +26,14 @@ use Rattle.fal_wire.specs.declared.message.Message.TheVariants as message
 use Rattle.fal_wire.specs.Letters.{letter}
 use Rattle.fal_story.proofs.Coordinator.AtStage.{both_so, comes_to, hosts_at, seen, seen_at, stays, stays_at}
 use Rattle.fal_story.proofs.Coordinator.Concludes.{dropped_off, dropped_there, ends_changed, ends_unchanged, some_below}
-use Rattle.fal_story.proofs.Coordinator.CoordSends.{IsFineHere, coord_sends_all}
+use Rattle.fal_story.proofs.Coordinator.CoordSends.{coord_sends_all, fine_nodes}
 use Rattle.fal_story.proofs.Coordinator.Suited.{suited_tree, IsSuited, is_suited}
 use Rattle.fal_story.proofs.Events.Doing.{kept_of}
 use Rattle.fal_story.proofs.Events.GotEvent.{AllFit}
 use Rattle.fal_story.proofs.Events.InCoord.{EndsCoord, coord_ends}
 use Rattle.fal_story.proofs.Events.Shows.{Ghost, Shows, Suits, posts_of}
+use Rattle.fal_story.proofs.Events.Tables.{coord_nodes, numbered_few}
 use Rattle.fal_story.proofs.Good.{Good}
-use Rattle.fal_story.proofs.Lists.Each.{each_always}
-use Rattle.fal_story.proofs.Lists.Members.{each_map}
 use Rattle.fal_story.proofs.Steps.Arrives.{locked_comes}
 use Rattle.fal_story.proofs.Steps.Carried.{counting_good, locked_good}
 use Rattle.fal_story.proofs.Steps.Decides.{change_decides, count_stands, says_locked}
@@ -89,17 +87,16 @@ module _ (config : Config) (w : World) (h : Ghost) (operation : Operation) (rows
   unfolding counting
   counted dir updates judges fit =
       let hosts = shown.beside.hosts in
-      let nodes : w.coord.table.nodes ≡ config.nodes = ap (λ t. t.nodes) hosts.table in
+      let nodes = coord_nodes config w h shown in
       let some = cluster.some_nodes in
       let coord = at_stage w.coord (stage.Count operation rows dir updates (numbers_below w.coord.table.nodes) []) in
       let stands = count_stands config locked l operation.keys (kept_of operation) rows suited.walks suited.fits suited.locked good dir updates refl (suited.judged rows ∙ judges) in
       let begins = counting_good config locked l operation.keys (kept_of operation) rows dir updates refl stands.0 stands.1 stands.2 good in
       let there : Good config (seen config w coord h) =
       subst (λ missing. Good config (record locked { op = record locked.op { work = Counts l operation.keys (kept_of operation) missing rows dir updates 0 } })) (ap numbers_below (sym nodes)) begins in
-      let step = comes_to config w h shown coord there (record { table = hosts.table; waiters = hosts.waiters; apart = hosts.apart; current = (is, suits, some_below w.coord.table.nodes (omega arith), judges) }) in
-      let fine = each_map (IsFineHere config w (begun coord) h) (λ (n : ℕ). letter (Node n) (Here 0) (message.Count w.coord.operation dir)) (range_with_len 0 w.coord.table.nodes)
-      (each_always (λ (n : ℕ). IsFineHere config w (begun coord) h (letter (Node n) (Here 0) (message.Count w.coord.operation dir)))
-      (λ n. record { asking = tt; records = (n, refl); operation = (omega arith, λ _. refl); bars = tt; knowing = tt }) (range_with_len 0 w.coord.table.nodes)) in
+      let step = comes_to config w h shown coord there (record { waiters = hosts.waiters; apart = hosts.apart; current = (is, suits, some_below w.coord.table.nodes (omega arith), judges); numbered = numbered_few config w h shown }) in
+      let fine = fine_nodes config w (begun coord) h (λ (n : ℕ). letter (Node n) (Here 0) (message.Count w.coord.operation dir)) w.coord.table.nodes
+      (λ n _. record { asking = tt; records = (n, refl); operation = (omega arith, λ _. refl); bars = tt; knowing = tt }) in
       (h, coord_ends config w h (counting w.coord operation rows dir updates) h fit shown (coord_sends_all config w (begun coord) h (to_nodes w.coord.table.nodes (message.Count w.coord.operation dir)) fine step))
 
   judges : (j : Judged) → verdict_on operation rows ≡ j → AllFit (judged_work w.coord operation rows j).sent → EndsCoord config w (judged_work w.coord operation rows j)
@@ -121,7 +118,7 @@ module _ (config : Config) (w : World) (h : Ghost) (e p number node : ℕ) (told
     hears_left (n ∷ left) good fit =
         let hosts = hosts_at config w h shown (stage.Lock operation missing rows) at in
         stays_at config w h shown (at_stage w.coord (stage.Lock operation (n ∷ left) (rows ++ told))) good
-        (record { table = hosts.table; waiters = hosts.waiters; apart = hosts.apart; current = (hosts.current.0, hosts.current.1, λ none. cc) })
+        (record { waiters = hosts.waiters; apart = hosts.apart; current = (hosts.current.0, hosts.current.1, λ none. cc); numbered = hosts.numbered })
 
     hears : number ≡ w.coord.operation → AllFit (lock_heard w.coord operation (rows ++ told) (without_node node missing)).sent → EndsCoord config w (lock_heard w.coord operation (rows ++ told) (without_node node missing))
     hears same fit =
@@ -146,6 +143,8 @@ module _ (config : Config) (w : World) (h : Ghost) (e p number node : ℕ) (told
       ] refl fit
   locked_at (stage.Count operation rows dir updates missing counts) at fit = stays config w h shown
   locked_at (stage.Finish keys updates missing) at fit = stays config w h shown
+  locked_at (stage.Block call missing given) at fit = stays config w h shown
+  locked_at (stage.Install call missing) at fit = stays config w h shown
 
 pub locked_heard : (config : Config) (w : World) (h : Ghost) (e p number node : ℕ) (rows : List Update) → IsCluster config → Shows config w h → IsPosted (posts_of w.envelopes) e (Node 255) p (message.Locked number node rows)
     → AllFit (take_locked w.coord number node rows w.coord.stage).sent → EndsCoord config w (take_locked w.coord number node rows w.coord.stage)

@@ -1,7 +1,7 @@
 -- The coordinator's walk step: it asks for a directory that it lacks, or tells every node to shut the keys at which the walks ended.
-use Rattle.std.proofs.Common.{◌≡◌, inr, ℕ, zero, suc, ◌+◌, ◌<◌, ◌≤◌, true, false, not, List, [], ◌∷◌, ◌++◌, length, Some, refl, sym, ap, ◌∙◌, subst, arith, append-nil}
+use Rattle.std.proofs.Common.{◌≡◌, inr, ℕ, ◌+◌, ◌<◌, ◌≤◌, true, false, not, List, [], ◌∷◌, ◌++◌, length, Some, refl, sym, ap, ◌∙◌, subst, arith, append-nil}
 use Rattle.std.specs.Prelude.{IsTrue}
-use Rattle.std.specs.List.{All, range_with_len}
+use Rattle.std.specs.List.{All}
 use Rattle.fal_base.specs.declared.call.CallRec.{CallRec}
 use Rattle.fal_base.specs.declared.call.Config.{Config}
 use Rattle.fal_base.specs.declared.event.Actor.TheVariants.{Node}
@@ -22,13 +22,13 @@ use Rattle.fal_coord.specs.Begin.{ask_letter, asking, locking, walk_step, walked
 use Rattle.fal_coord.specs.Judged.{is_for_rows}
 use Rattle.fal_coord.specs.Nodes.{numbers_below, to_nodes}
 use Rattle.fal_coord.specs.State.{CoordState, Work, begun, at_stage}
-use Rattle.fal_coord.specs.Walks.{is_busy, is_operation, parents_of, walk_paths, walked_paths, with_ends}
+use Rattle.fal_coord.specs.Walks.{is_busy, is_walking, parents_of, walk_paths, walked_paths, with_ends}
 use Rattle.fal_place.specs.Placement.{owner}
 use Rattle.fal_run.specs.Calls.{is_making}
 use Rattle.fal_wire.specs.declared.message.Message.TheVariants as message
 use Rattle.fal_wire.specs.Letters.{letter}
 use Rattle.fal_story.proofs.Coordinator.Concludes.{some_below}
-use Rattle.fal_story.proofs.Coordinator.CoordSends.{IsFineHere, coord_sends_all}
+use Rattle.fal_story.proofs.Coordinator.CoordSends.{IsFineHere, coord_sends_all, fine_nodes}
 use Rattle.fal_story.proofs.Coordinator.Walking.{IsWalking, gives_up, goes_on, held_there, walking}
 use Rattle.fal_story.proofs.Events.Doing.{kept_walks}
 use Rattle.fal_story.proofs.Events.GotEvent.{AllFit}
@@ -36,9 +36,7 @@ use Rattle.fal_story.proofs.Events.InCoord.{InCoord, EndsCoord, coord_ends, view
 use Rattle.fal_story.proofs.Events.Shows.{Ghost, Shows, Suits, askings_of, posts_of}
 use Rattle.fal_story.proofs.Families.Operation.{IsKept}
 use Rattle.fal_story.proofs.Good.{Good}
-use Rattle.fal_story.proofs.Lists.Each.{Each}
 use Rattle.fal_story.proofs.Lists.Grown.{put_other, put_put, put_same}
-use Rattle.fal_story.proofs.Lists.Members.{each_map}
 use Rattle.fal_story.proofs.Phase.{Waits, Runs}
 use Rattle.fal_story.proofs.Steps.Carried.{locking_good}
 use Rattle.fal_story.proofs.Steps.PathsMet.{AreMet, met_paths}
@@ -52,7 +50,7 @@ use Rattle.fal_story.specs.World.{World, put}
 -- ---- what an operation is
 
 -- it makes no row of a new number
-makes_no_number : (call : Op) → is_operation call ≡ true → is_making call ≡ false
+makes_no_number : (call : Op) → is_walking call ≡ true → is_making call ≡ false
 makes_no_number (op.Chmod path mode) is = refl
 makes_no_number (op.Chown path uid gid) is = refl
 makes_no_number (op.Rmdir path) is = refl
@@ -60,19 +58,14 @@ makes_no_number (op.Rename old new) is = refl
 makes_no_number other is = absurd (cc)
 
 -- with a walk of each of its paths, rows decide it
-for_rows : (call : Op) (walks : List PathWalk) → is_operation call ≡ true → is_busy call ≡ false → length walks ≡ length (walked_paths call) → IsTrue (is_for_rows call (parents_of walks))
+for_rows : (call : Op) (walks : List PathWalk) → is_walking call ≡ true → is_busy call ≡ false → length walks ≡ length (walked_paths call) → IsTrue (is_for_rows call (parents_of walks))
 for_rows (op.Chmod (GoodPath path) mode) (walk ∷ []) is busy all = refl
 for_rows (op.Chown (GoodPath path) uid gid) (walk ∷ []) is busy all = refl
 for_rows (op.Rmdir (GoodPath path)) (walk ∷ []) is busy all = ap not busy
 for_rows (op.Rename (GoodPath old) (GoodPath new)) (walk ∷ later ∷ []) is busy all = ap not busy
 for_rows other walks is busy all = absurd (cc)
 
--- numbers from the first on are below the end
-each_below : (nodes from count : ℕ) → from + count ≡ nodes → Each (λ n. n < nodes) (range_with_len from count)
-each_below nodes from zero end = tt
-each_below nodes from (suc count) end = (omega arith, each_below nodes (from + 1) count (omega arith))
-
-module _ (config : Config) (w : World) (coord : CoordState) (h h0 : Ghost) (c : CallRec) (cluster : IsCluster config) (shown : Shows config w h0) (s : IsWalking config w coord h c) (busy : is_busy c.op ≡ false) where
+module _ (config : Config) (w : World) (coord : CoordState) (h h0 : Ghost) (c : CallRec) (cluster : IsCluster config) (shown : Shows config w h0) (s : IsWalking config w coord h c) (is_walked : IsTrue (is_walking c.op)) (busy : is_busy c.op ≡ false) where
   abbrev l : ℕ
   l = c.id.client
 
@@ -84,7 +77,7 @@ module _ (config : Config) (w : World) (coord : CoordState) (h h0 : Ghost) (c : 
   -- the walks come to the key
   comes_to : (key : Key) → reaches (tree_now w.commits) c.cred (walked_paths c.op) key ≡ true → Reaches (tree_now w.commits) (h.call l) key
   comes_to key is = subst (λ (d : CallRec). Reaches (tree_now w.commits) d key) s.is
-      (subst (λ paths. reaches (tree_now w.commits) c.cred paths key ≡ true) (sym (operation_paths_are c.op s.operation busy)) is)
+      (subst (λ paths. reaches (tree_now w.commits) c.cred paths key ≡ true) (sym (operation_paths_are c.op is_walked busy)) is)
 
   asks : (key : Key) → reaches (tree_now w.commits) c.cred (walked_paths c.op) key ≡ true → AllFit (asking coord c key).sent → EndsCoord config w (asking coord c key)
   unfolding asking
@@ -107,7 +100,7 @@ module _ (config : Config) (w : World) (coord : CoordState) (h h0 : Ghost) (c : 
         coord_ends config w h0 k later fit shown
             (goes_on config w coord h c s (coord.asked + 1) (stage.Walk c coord.asked key) (ask_letter coord key ∷ []) q rests (λ z. cc) (λ n x z. cc)
             (λ a apart. sym (put_other h.crossed l _ a apart))
-            (s.is, put_same h.phase l q, s.operation, busy) (subst (Good config) same good)),
+            (s.is, put_same h.phase l q, is_walked, busy) s.numbered (subst (Good config) same good)),
       )
 
   -- ---- the walks are ready
@@ -126,13 +119,13 @@ module _ (config : Config) (w : World) (coord : CoordState) (h h0 : Ghost) (c : 
     then = record h { phase = put h.phase l Runs }
 
     suits : Suits operation
-    suits = record { rows = for_rows c.op walks s.operation busy all; keys = refl }
+    suits = record { rows = for_rows c.op walks is_walked busy all; keys = refl }
 
     locks : InCoord config w at then
     locks =
-        let nodes : coord.table.nodes ≡ config.nodes = ap (λ t. t.nodes) s.table in
+        let nodes = s.nodes in
         let some = cluster.some_nodes in
-        let unmaking = subst (λ (d : CallRec). is_making d.op ≡ false) s.is (makes_no_number c.op s.operation) in
+        let unmaking = subst (λ (d : CallRec). is_making d.op ≡ false) s.is (makes_no_number c.op is_walked) in
         let kept_there = subst (λ (d : CallRec). All (IsKept (tree_now w.commits) d.cred) (kept_walks (walked_paths c.op) walks)) s.is kept in
         let good = locking_good config v l 255 keys (kept_walks (walked_paths c.op) walks) refl (held_there config w coord h c s) refl unmaking kept_there s.good in
         let same : record v { phase = then.phase; op = record v.op { work = Locks l keys (kept_walks (walked_paths c.op) walks) (numbers_below config.nodes) [] } } ≡ view_at config w at then =
@@ -143,7 +136,7 @@ module _ (config : Config) (w : World) (coord : CoordState) (h h0 : Ghost) (c : 
           op = record (view_at config w at then).op { work = Locks l keys (kept_walks (walked_paths c.op) walks) (numbers_below (sym nodes i)) [] };
         } in
         goes_on config w coord h c s coord.asked (stage.Lock operation (numbers_below coord.table.nodes) []) [] Runs h.crossed (λ z. cc) (λ n x z. cc) (λ a _. refl)
-        (s.is, suits, some_below coord.table.nodes (omega arith)) (subst (Good config) same good)
+        (s.is, suits, some_below coord.table.nodes (omega arith)) s.numbered (subst (Good config) same good)
 
     lock_fine : (n : ℕ) → n < config.nodes → IsFineHere config w at then (letter (Node n) (Here 0) (message.Lock coord.operation keys))
     lock_fine n below = record { asking = tt; records = (n, refl); operation = (n, refl, below, inr (refl, refl)); bars = tt; knowing = tt }
@@ -151,22 +144,16 @@ module _ (config : Config) (w : World) (coord : CoordState) (h h0 : Ghost) (c : 
     sends_locks : AllFit (locking coord c keys walks).sent → EndsCoord config w (locking coord c keys walks)
     unfolding locking
     sends_locks fit =
-        let nodes : coord.table.nodes ≡ config.nodes = ap (λ t. t.nodes) s.table in
-        let fine : Each (IsFineHere config w at then) (to_nodes coord.table.nodes (message.Lock coord.operation keys)) =
-        each_map (IsFineHere config w at then) (λ (n : ℕ). letter (Node n) (Here 0) (message.Lock coord.operation keys)) (range_with_len 0 coord.table.nodes)
-        (each_fine (range_with_len 0 coord.table.nodes) (each_below config.nodes 0 coord.table.nodes (omega arith))) in
+        let nodes = s.nodes in
+        let fine = fine_nodes config w at then (λ (n : ℕ). letter (Node n) (Here 0) (message.Lock coord.operation keys)) coord.table.nodes (λ n below. lock_fine n (omega arith)) in
         (then, coord_ends config w h0 (locking coord c keys walks) then fit shown (coord_sends_all config w at then (to_nodes coord.table.nodes (message.Lock coord.operation keys)) fine locks))
-      where
-        each_fine : (ns : List ℕ) → Each (λ n. n < config.nodes) ns → Each (λ (n : ℕ). IsFineHere config w at then (letter (Node n) (Here 0) (message.Lock coord.operation keys))) ns
-        each_fine [] below = tt
-        each_fine (n ∷ ns) below = (lock_fine n below.0, each_fine ns below.1)
 
   -- ---- by how the walks end
 
   walks_as : (end : PathsWalk) → AreMet (tree_now w.commits) coord.replica c.cred (walked_paths c.op) end → AllFit (walked_as coord c end).sent → EndsCoord config w (walked_as coord c end)
   walks_as (Stopped errno) met fit =
       let tree = tree_now w.commits in
-      let stops : first_stop tree c.cred (call_paths c.op) ≡ Some errno = ap (first_stop tree c.cred) (operation_paths_are c.op s.operation busy) ∙ met.1 in
+      let stops : first_stop tree c.cred (call_paths c.op) ≡ Some errno = ap (first_stop tree c.cred) (operation_paths_are c.op is_walked busy) ∙ met.1 in
       let here : length w.commits ≡ length w.commits + 0 = omega arith in
       let past : h.since l ≤ length w.commits = s.good.script.calls.past l in
       gives_up config w coord h c s h0 (Here 0) errno shown (omega arith) (omega arith)

@@ -65,7 +65,8 @@ served_there config (op.Chmod path mode) cluster served = node_for_there config 
 served_there config (op.Chown path uid gid) cluster served = node_for_there config path cluster
 served_there config (op.Rmdir path) cluster served = tt
 served_there config (op.Rename old new) cluster served = tt
-served_there config other cluster served = absurd (cc)
+served_there config (op.Place name rule) cluster served = tt
+served_there config (op.List path) cluster served = absurd (cc)
 
 -- ---- lanes
 

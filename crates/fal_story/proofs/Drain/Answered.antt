@@ -12,7 +12,7 @@ use Rattle.fal_coord.specs.declared.stage.Stage.{Stage}
 use Rattle.fal_coord.specs.declared.stage.Stage.TheVariants as stage
 use Rattle.fal_coord.specs.State.{CoordState, is_idle, is_quiet as is_coord_quiet}
 use Rattle.fal_node.specs.declared.batch.Batch.{Batch}
-use Rattle.fal_story.proofs.Drain.Follow.{IsUnder, Asked, Waiting, Planned, Hosted, Answered, calls_of, hosted, marks_in, passed_on, IsTold}
+use Rattle.fal_story.proofs.Drain.Follow.{IsUnder, Asked, Waiting, Planned, Hosted, Answered, Stale, calls_of, hosted, marks_in, passed_on, IsTold}
 use Rattle.fal_story.proofs.Drain.FollowRuns.{IsLive, legal_lives}
 use Rattle.fal_story.proofs.Drain.MovingCoord.{no_length, both_are, quiet_lists}
 use Rattle.fal_story.proofs.Drain.Quiet.{envelope_at, none_is_quiet}
@@ -33,6 +33,8 @@ idle_stage (stage.Walk call fetch key) e = absurd (cc)
 idle_stage (stage.Lock operation missing rows) e = absurd (cc)
 idle_stage (stage.Count operation rows dir updates missing counts) e = absurd (cc)
 idle_stage (stage.Finish keys updates missing) e = absurd (cc)
+idle_stage (stage.Block call missing rows) e = absurd (cc)
+idle_stage (stage.Install call missing) e = absurd (cc)
 
 -- a quiet coordinator keeps no call
 none_hosted : (coord : CoordState) → is_coord_quiet coord ≡ true → hosted coord ≡ []
@@ -47,6 +49,7 @@ none_under config w came id q (Waiting n x at is) = let none : IsIn x [] = subst
 none_under config w came id q (Planned n x at is) = let none : IsIn x (calls_in []) = subst (λ (bs : List Batch). IsIn x (calls_in bs)) (quiet_lists (w.nodes n) (q.nodes n)).0 at in absurd none
 none_under config w came id q (Hosted c at is) = let none : IsIn c [] = subst (IsIn c) (none_hosted w.coord q.coord) at in absurd none
 none_under config w came id q (Answered k p reply at fresh) = let x = envelope_at w.envelopes k _ at in let there = q.all_came k x.0 x.1 in absurd (cc)
+none_under config w came id q (Stale k p old new changes at fresh) = let x = envelope_at w.envelopes k _ at in let there = q.all_came k x.0 x.1 in absurd (cc)
 
 -- ---- calls that were sent
 

@@ -1,5 +1,6 @@
--- Where each call under way is found: on its way to a node or to the coordinator, at one of these, or answered and on its way back.
-use Rattle.std.proofs.Common.{◌≡◌, ◌≢◌, ◌⊎◌, ⊎_elim, ℕ, ◌<◌, ◌≤◌, Bool, true, false, List, [], ◌∷◌, ◌++◌, Some, None, IsTrue, sym, ap, subst, ◌∙◌}
+-- Where each call under way is found: on its way to a node or to the coordinator, at one of these, or on its way back, answered or with a
+-- later table.
+use Rattle.std.proofs.Common.{is_some, ◌≡◌, ◌≢◌, ◌⊎◌, ⊎_elim, ℕ, ◌<◌, ◌≤◌, Bool, true, false, List, [], ◌∷◌, ◌++◌, Some, None, IsTrue, sym, ap, subst, ◌∙◌}
 use Rattle.std.specs.Prelude.{slice_get}
 use Rattle.fal_base.specs.declared.call.CallId.{CallId}
 use Rattle.fal_base.specs.declared.call.CallRec.{CallRec}
@@ -7,6 +8,7 @@ use Rattle.fal_base.specs.declared.entry.Entry.{Entry}
 use Rattle.fal_base.specs.declared.entry.Entry.TheVariants as entry
 use Rattle.fal_base.specs.declared.event.Actor.TheVariants.{Client, Node}
 use Rattle.fal_base.specs.declared.reply.Reply.{Reply}
+use Rattle.fal_base.specs.declared.rule.RuleChange.{RuleChange}
 use Rattle.fal_base.specs.Marks.{Marks, mark_of, last_mark, is_newer}
 use Rattle.fal_client.specs.declared.current.Current.{Current}
 use Rattle.fal_client.specs.State.{ClientState}
@@ -15,6 +17,7 @@ use Rattle.fal_coord.specs.declared.stage.Stage.{Stage}
 use Rattle.fal_coord.specs.declared.stage.Stage.TheVariants as stage
 use Rattle.fal_coord.specs.State.{CoordState}
 use Rattle.fal_coord.specs.Walks.{is_operation}
+use Rattle.fal_exec.specs.RowCall.{row_names}
 use Rattle.fal_node.specs.declared.batch.Batch.{Batch}
 use Rattle.fal_run.specs.declared.call.BatchCall.{BatchCall}
 use Rattle.fal_node.specs.State.{NodeState}
@@ -35,14 +38,16 @@ calls_of (stage.Walk call fetch key) = call ∷ []
 calls_of (stage.Lock operation missing rows) = operation.call ∷ []
 calls_of (stage.Count operation rows dir updates missing counts) = operation.call ∷ []
 calls_of (stage.Finish keys updates missing) = []
+calls_of (stage.Block call missing rows) = call ∷ []
+calls_of (stage.Install call missing) = []
 
 -- the calls that the coordinator keeps
 abbrev pub hosted : CoordState → List CallRec
 hosted coord = calls_of coord.stage ++ coord.waiting
 
--- what goes to the coordinator is an operation
+-- what goes to the coordinator is an operation, and what goes to a node is a call that one row decides
 abbrev pub IsSuited : ℕ → CallRec → Type 0
-IsSuited n call = n ≡ 255 → IsTrue (is_operation call.op)
+IsSuited n call = (n ≡ 255 → IsTrue (is_operation call.op)) × (n ≢ 255 → IsTrue (is_some (row_names call.op)))
 
 -- the call with this id is under way
 pub data IsUnder (posts : List Post) (came : ℕ → Bool) (taken : ℕ → Marks) (nodes : ℕ → NodeState) (coord : CoordState) (id : CallId) : Type 0 where
@@ -52,10 +57,15 @@ pub data IsUnder (posts : List Post) (came : ℕ → Bool) (taken : ℕ → Mark
   Planned : (n : ℕ) (x : BatchCall) → IsIn x (calls_in (nodes n).batches) → x.call.id ≡ id → IsUnder posts came taken nodes coord id
   Hosted : (c : CallRec) → IsIn c (hosted coord) → c.id ≡ id → IsUnder posts came taken nodes coord id
   Answered : (k p : ℕ) (reply : Reply) → IsPosted posts k (Client id.client) p (message.Reply id reply) → came k ≡ false → IsUnder posts came taken nodes coord id
+  Stale : (k p old new : ℕ) (changes : List RuleChange) → IsPosted posts k (Client id.client) p (message.Stale id old new changes) → came k ≡ false → IsUnder posts came taken nodes coord id
 
 -- the transcript answers the call
 abbrev pub IsTold : List Entry → ℕ → ℕ → Type 0
 IsTold entries l s = (i : ℕ) × ((point : ℕ) × ((reply : Reply) × (slice_get entries i ≡ Some (entry.Answered l s point reply))))
+
+-- the call is its lane's last one, and of the attempt that its client has under way
+abbrev pub IsLast : World → CallId → Type 0
+IsLast w id = (id.seq ≡ (w.clients id.client).seq) × ((current : Current) × (((w.clients id.client).current ≡ Some current) × (current.attempt ≡ id.attempt)))
 
 -- the call was sent and is no longer under way
 abbrev pub IsOver : ClientState → ℕ → Type 0
@@ -102,12 +112,15 @@ told_more entries more l s t = (t.0, (t.1.0, (t.1.1.0, slice_get_front entries m
 
 -- records are sent, and none comes but to this client, of whose call it is not
 pub under_more : (posts more : List Post) (came later : ℕ → Bool) (taken : ℕ → Marks) (nodes : ℕ → NodeState) (coord : CoordState) (id : CallId) → ((k n p : ℕ) (call : CallRec) → IsPosted posts k (Node n) p (message.Call call) → came k ≡ false → later k ≡ false)
-    → ((k p : ℕ) (reply : Reply) → IsPosted posts k (Client id.client) p (message.Reply id reply) → came k ≡ false → later k ≡ false) → IsUnder posts came taken nodes coord id → IsUnder (posts ++ more) later taken nodes coord id
-under_more posts more came later taken nodes coord id calls replies (Asked k p n call at fresh is newer suited) = Asked k p n call (slice_get_front posts more k _ at) (calls k n p call at fresh) is newer suited
-under_more posts more came later taken nodes coord id calls replies (Waiting n x at is) = Waiting n x at is
-under_more posts more came later taken nodes coord id calls replies (Planned n x at is) = Planned n x at is
-under_more posts more came later taken nodes coord id calls replies (Hosted c at is) = Hosted c at is
-under_more posts more came later taken nodes coord id calls replies (Answered k p reply at fresh) = Answered k p reply (slice_get_front posts more k _ at) (replies k p reply at fresh)
+    → ((k p : ℕ) (reply : Reply) → IsPosted posts k (Client id.client) p (message.Reply id reply) → came k ≡ false → later k ≡ false)
+    → ((k p old new : ℕ) (changes : List RuleChange) → IsPosted posts k (Client id.client) p (message.Stale id old new changes) → came k ≡ false → later k ≡ false)
+    → IsUnder posts came taken nodes coord id → IsUnder (posts ++ more) later taken nodes coord id
+under_more posts more came later taken nodes coord id calls replies stales (Asked k p n call at fresh is newer suited) = Asked k p n call (slice_get_front posts more k _ at) (calls k n p call at fresh) is newer suited
+under_more posts more came later taken nodes coord id calls replies stales (Waiting n x at is) = Waiting n x at is
+under_more posts more came later taken nodes coord id calls replies stales (Planned n x at is) = Planned n x at is
+under_more posts more came later taken nodes coord id calls replies stales (Hosted c at is) = Hosted c at is
+under_more posts more came later taken nodes coord id calls replies stales (Answered k p reply at fresh) = Answered k p reply (slice_get_front posts more k _ at) (replies k p reply at fresh)
+under_more posts more came later taken nodes coord id calls replies stales (Stale k p old new changes at fresh) = Stale k p old new changes (slice_get_front posts more k _ at) (stales k p old new changes at fresh)
 
 -- a node's event: the calls elsewhere stay where they are
 pub under_node : (posts more : List Post) (came later : ℕ → Bool) (taken : ℕ → Marks) (nodes : ℕ → NodeState) (coord : CoordState) (n : ℕ) (x : NodeState) (id : CallId) (R : Type 0) → taken n ≡ (nodes n).waiting.last
@@ -141,6 +154,9 @@ under_node posts more came later taken nodes coord n x id R own still others ask
 under_node posts more came later taken nodes coord n x id R own still others asked waiting planned (Hosted c at is) = still (Hosted c at is)
 under_node posts more came later taken nodes coord n x id R own still others asked waiting planned (Answered k p reply at fresh) =
     still (Answered k p reply (slice_get_front posts more k _ at) (others k (post (Client id.client) p (message.Reply id reply)) at (λ e. let wrong : Client id.client ≡ Node n = e in absurd (cc)) fresh))
+under_node posts more came later taken nodes coord n x id R own still others asked waiting planned (Stale k p old new changes at fresh) =
+    still (Stale k p old new changes (slice_get_front posts more k _ at)
+    (others k (post (Client id.client) p (message.Stale id old new changes)) at (λ e. let wrong : Client id.client ≡ Node n = e in absurd (cc)) fresh))
 
 -- the call is now at this node
 pub waiting_now : (posts : List Post) (came : ℕ → Bool) (taken : ℕ → Marks) (nodes : ℕ → NodeState) (coord : CoordState) (n : ℕ) (x : NodeState) (id : CallId) (y : WaitingCall) → IsIn y x.waiting.calls → y.call.id ≡ id

@@ -1,5 +1,5 @@
 -- Each call under way is found after a call came to a node, or any record.
-use Rattle.std.proofs.Common.{◌≡◌, ◌≢◌, ⊎_elim, ℕ, zero, suc, ◌<◌, nat_lt, Bool, true, false, cond, List, [], ◌∷◌, ◌++◌, Some, None, Result, Ok, Err, is_some, IsTrue, refl, sym, ap, subst, ◌∙◌, arith}
+use Rattle.std.proofs.Common.{◌≡◌, ◌≢◌, ⊎_elim, ℕ, zero, suc, ◌<◌, nat_lt, Bool, true, false, cond, List, [], ◌∷◌, ◌++◌, Some, None, Result, Ok, Err, is_some, refl, sym, ap, subst, ◌∙◌, arith}
 use Rattle.std.specs.Prelude.{slice_get}
 use Rattle.std.specs.List.{All}
 use Rattle.std.specs.Result.{result_ok}
@@ -10,15 +10,11 @@ use Rattle.fal_base.specs.declared.call.Config.{Config}
 use Rattle.fal_base.specs.declared.event.Actor.TheVariants.{Node, Coord}
 use Rattle.fal_base.specs.declared.event.Point.TheVariants.{Here}
 use Rattle.fal_base.specs.declared.event.Envelope.{Envelope}
-use Rattle.fal_base.specs.declared.op.Op.{Op}
-use Rattle.fal_base.specs.declared.op.Op.TheVariants as op
-use Rattle.fal_base.specs.declared.path.PathArg.TheVariants.{Good, Bad}
 use Rattle.fal_exec.specs.RowCall.{row_names}
 use Rattle.fal_wire.specs.declared.letter.Letter.{Letter}
-use Rattle.fal_client.specs.Paths.{addressee}
 use Rattle.fal_duty.specs.Duties.{owned, count_told}
-use Rattle.fal_node.specs.Deliver.{admitted, take_call, take_message, take_read, with_operation, reopened, delivered}
-use Rattle.fal_place.specs.Placement.{Placement}
+use Rattle.fal_node.specs.Deliver.{admitted, take_call, take_message, take_read, with_operation, reopened, name_blocked, installed, install, install_named, delivered}
+use Rattle.fal_place.specs.Placement.{is_within}
 use Rattle.fal_wire.specs.Letters.{letter}
 use Rattle.fal_node.specs.Letters.{Work, begun, is_asker}
 use Rattle.fal_node.specs.State.{NodeState, with_item, is_of}
@@ -31,9 +27,7 @@ use Rattle.fal_wire.specs.declared.fault.WireFault.{WireFault}
 use Rattle.fal_wire.specs.declared.message.Message.{Message}
 use Rattle.fal_wire.specs.declared.message.Message.TheVariants as message
 use Rattle.fal_wire.specs.Messages.{Fits, reading}
-use Rattle.fal_wire.specs.Names.{path_arg_field}
-use Rattle.fal_wire.specs.Ops.{op_field, path_and_mode, path_and_want, path_and_owner, path_and_size}
-use Rattle.fal_story.proofs.Drain.Follow.{IsFollowed, IsUpTo, marks_in, under_node, waiting_now, planned_now, asked_now}
+use Rattle.fal_story.proofs.Drain.Follow.{IsFollowed, IsSuited, IsUpTo, marks_in, under_node, waiting_now, planned_now, asked_now}
 use Rattle.fal_story.proofs.Drain.FollowDeliver.{coming_post, other_fresh, plain_follows, settle_follows}
 use Rattle.fal_story.proofs.Drain.FollowNode.{AreMarked, IsUnderAfter, marks_at, node_follows, marks_stay}
 use Rattle.fal_story.proofs.Drain.FollowGhost.{asked_by, live_is}
@@ -41,42 +35,16 @@ use Rattle.fal_story.proofs.Drain.Moving.{IsMoving}
 use Rattle.fal_story.proofs.Drain.MovingDeliver.{IsComing, no_seat}
 use Rattle.fal_story.proofs.Drain.MovingGot.{node_of}
 use Rattle.fal_story.proofs.Drain.MovingServe.{After}
-use Rattle.fal_story.proofs.Events.FirstTable.{sent_there}
 use Rattle.fal_story.proofs.Events.Shows.{Ghost, Shows, posts_of}
 use Rattle.fal_story.proofs.Lists.Grown.{tells, put_other}
 use Rattle.fal_story.proofs.Lists.Joined.{in_last}
 use Rattle.fal_story.proofs.Lists.Members.{IsIn, in_front}
 use Rattle.fal_story.proofs.Lists.Newer.{mark_cases, not_newer_itself}
-use Rattle.fal_story.proofs.Phase.{Idle, Asked, IsFor}
+use Rattle.fal_story.proofs.Phase.{Idle, Asked}
 use Rattle.fal_story.proofs.View.{Post, IsPosted, post}
-use Rattle.fal_story.specs.Clusters.{is_served}
 use Rattle.fal_story.specs.World.{World, put}
 
 -- ---- the call that comes is the one under way
-
--- a served call that a record can hold, and that goes to a node, has one good path
-row_some : (table : Placement) (n : ℕ) (call : Op) → IsTrue (is_served call) → op_field.Fits call → addressee table call ≡ Node n → is_some (row_names call) ≡ true
-unfolding op_field path_and_mode path_and_want path_and_owner path_and_size path_arg_field addressee
-row_some table n (op.Mkdir (Good names) mode) served fits to = refl
-row_some table n (op.Mkdir (Bad fault raw) mode) served fits to = absurd (fits.0)
-row_some table n (op.Create (Good names) mode) served fits to = refl
-row_some table n (op.Create (Bad fault raw) mode) served fits to = absurd (fits.0)
-row_some table n (op.Stat (Good names)) served fits to = refl
-row_some table n (op.Stat (Bad fault raw)) served fits to = absurd fits
-row_some table n (op.Access (Good names) want) served fits to = refl
-row_some table n (op.Access (Bad fault raw) want) served fits to = absurd (fits.0)
-row_some table n (op.Chmod (Good names) mode) served fits to = refl
-row_some table n (op.Chmod (Bad fault raw) mode) served fits to = absurd (fits.0)
-row_some table n (op.Chown (Good names) uid gid) served fits to = refl
-row_some table n (op.Chown (Bad fault raw) uid gid) served fits to = absurd (fits.0)
-row_some table n (op.Truncate (Good names) size) served fits to = refl
-row_some table n (op.Truncate (Bad fault raw) size) served fits to = absurd (fits.0)
-row_some table n (op.Unlink (Good names)) served fits to = refl
-row_some table n (op.Unlink (Bad fault raw)) served fits to = absurd fits
-row_some table n (op.Rmdir path) served fits to = absurd (cc)
-row_some table n (op.Rename old new) served fits to = absurd (cc)
-row_some table n (op.List path) served fits to = absurd (cc)
-row_some table n (op.Place name rule) served fits to = absurd (cc)
 
 -- the call that comes has the number of its lane's last call
 pub seq_by : (config : Config) (w : World) (n : ℕ) (h : Ghost) (c : CallRec) → Shows config w h → (c ≡ h.call c.id.client) × (h.phase c.id.client ≡ Asked n) → c.id.seq ≡ (w.clients c.id.client).seq
@@ -90,14 +58,6 @@ seq_by config w n h c s is =
     positive zero ne = absurd (ne refl)
     positive (suc n) ne = omega arith
 
--- at a node, it is one that a row decides
-row_by : (config : Config) (w : World) (n : ℕ) (h : Ghost) (c : CallRec) → n < config.nodes → Shows config w h → (c ≡ h.call c.id.client) × (h.phase c.id.client ≡ Asked n) → is_some (row_names c.op) ≡ true
-row_by config w n h c there s is =
-    let l = c.id.client in
-    let busy : h.phase l ≢ Idle = (λ e. let wrong : Idle ≡ Asked n = sym e ∙ is.1 in absurd (cc)) in
-    let to = sent_there config w h s l n there (subst (IsFor n) (sym is.1) refl) in
-    subst (λ (d : CallRec). is_some (row_names d.op) ≡ true) (sym is.0) (row_some w.coord.table n (h.call l).op (s.good.lanes.under_way.served l busy) (s.good.lanes.under_way.fits l busy) to)
-
 pub same_posted : (posts : List Post) (e n p q : ℕ) (a b : CallRec) → IsPosted posts e (Node n) p (message.Call a) → IsPosted posts e (Node n) q (message.Call b) → a ≡ b
 same_posted posts e n p q a b x y = let m : Some (message.Call a) ≡ Some (message.Call b) = ap (λ (z : Post). z.message) (same_Some (post (Node n) p (message.Call a)) (post (Node n) q (message.Call b)) (sym x ∙ y)) in cc
 
@@ -105,7 +65,7 @@ same_posted posts e n p q a b x y = let m : Some (message.Call a) ≡ Some (mess
 
 -- it is none that is under way
 not_taken : (config : Config) (w : World) (came : ℕ → Bool) (n e p : ℕ) (x : Envelope) (call : CallRec) → n ≢ 255 → IsFollowed w came → IsComing w n e x → IsPosted (posts_of w.envelopes) e (Node n) p (message.Call call)
-    → (is_new (w.nodes n).waiting call ≡ true → ⊥) → IsFollowed (After config w n (begun (w.nodes n))) (put came e true)
+    → (IsSuited n call → is_new (w.nodes n).waiting call ≡ true → ⊥) → IsFollowed (After config w n (begun (w.nodes n))) (put came e true)
 not_taken config w came n e p x call other f c at old =
     let posts = posts_of w.envelopes in
     let later = put came e true in
@@ -118,7 +78,7 @@ not_taken config w came n e p x call other f c at old =
     ⊎_elim
     (λ t.
     let mine : d ≡ call = same_posted posts e n q p d call (subst (λ j. IsPosted posts j (Node n) q (message.Call d)) t.1 there) at in
-    absurd (old (subst (λ (y : CallRec). is_new node.waiting y ≡ true) mine (subst (λ j. is_newer (mark_of j) (last_mark node.waiting.last j.client) ≡ true) (sym same) newer))))
+    absurd (old (subst (IsSuited n) mine suited) (subst (λ (y : CallRec). is_new node.waiting y ≡ true) mine (subst (λ j. is_newer (mark_of j) (last_mark node.waiting.last j.client) ≡ true) (sym same) newer))))
     (λ t. asked_now posts [] later (marks_in w) (put w.nodes n node) w.coord n i q node.waiting.last id d there (put_other came e true i t.1 ∙ fresh) same newer suited)
     (tells i e))
     (λ y there same. waiting_now (posts ++ []) later taken w.nodes w.coord n node id y there same)
@@ -198,11 +158,9 @@ call_follows config w came n e p x h call there other s f c at =
       | true ↦ λ row.
           elim (is_new node.waiting call) as (λ b. is_new node.waiting call ≡ b → IsFollowed (After config w n (begun (record node { waiting = cond b (with_call node.waiting call) node.waiting }))) (put came e true)) [
             | true ↦ λ newest. taken config w came n e p x h call other s f c at newest
-            | false ↦ λ old. not_taken config w came n e p x call other f c at (λ newest. absurd (cc))
+            | false ↦ λ old. not_taken config w came n e p x call other f c at (λ suited newest. absurd (cc))
           ] refl
-      | false ↦ λ row. not_taken config w came n e p x call other f c at (λ newest.
-          let mine = asked_by config w n h e p call s at (subst (λ ms. is_newer (mark_of call.id) (last_mark ms call.id.client) ≡ true) (sym (marks_at w n other)) newest) in
-          let some = row_by config w n h call there s mine in absurd (cc))
+      | false ↦ λ row. not_taken config w came n e p x call other f c at (λ suited newest. let some : is_some (row_names call.op) ≡ true = suited.1 other in absurd (cc))
     ] refl
 
 -- ---- any record
@@ -210,7 +168,7 @@ call_follows config w came n e p x h call there other s f c at =
 -- one that is no call, and after which the waiting calls and the batches are the same
 message_follows : (config : Config) (w : World) (came : ℕ → Bool) (n e : ℕ) (x : Envelope) (h : Ghost) (read : Message) → n < config.nodes → n ≢ 255 → Shows config w h → IsMoving config w came → IsFollowed w came → IsComing w n e x
     → reading x.bytes ≡ Ok read → All (λ (l : Letter). Fits l.message) (take_message (w.nodes n) x.point read).sent → IsFollowed (After config w n (take_message (w.nodes n) x.point read)) (put came e true)
-unfolding with_item with_operation reopened
+unfolding with_item with_operation reopened installed
 message_follows config w came n e x h (message.Call call) there other s m f c is fit = call_follows config w came n e x.point x h call there other s f c (coming_post w n e x (message.Call call) c is)
 message_follows config w came n e x h (message.FetchAsk asker number key) there other s m f c is fit =
     let no_call = λ (call : CallRec) (z : result_ok (reading x.bytes) ≡ Some (message.Call call)). let y : Some (message.FetchAsk asker number key) ≡ Some (message.Call call) = sym (ap result_ok is) ∙ z in absurd (cc) in
@@ -227,6 +185,23 @@ message_follows config w came n e x h (message.Lock operation keys) there other 
       | true ↦ plain_follows config w came n e x (begun (with_operation (w.nodes n) operation (message.Lock operation keys))) other m f c no_call (λ i y lt. absurd (omega arith)) refl refl refl
       | false ↦ plain_follows config w came n e x (begun (w.nodes n)) other m f c no_call (λ i y lt. absurd (omega arith)) refl refl refl
     ]
+message_follows config w came n e x h (message.Block operation name) there other s m f c is fit =
+    let no_call = λ (call : CallRec) (z : result_ok (reading x.bytes) ≡ Some (message.Call call)). let y : Some (message.Block operation name) ≡ Some (message.Call call) = sym (ap result_ok is) ∙ z in absurd (cc) in
+    elim (nat_lt (w.nodes n).last_operation operation) as (λ b. IsFollowed (After config w n (begun (cond b (with_operation (w.nodes n) operation (message.Block operation name)) (w.nodes n)))) (put came e true)) [
+      | true ↦ plain_follows config w came n e x (begun (with_operation (w.nodes n) operation (message.Block operation name))) other m f c no_call (λ i y lt. absurd (omega arith)) refl refl refl
+      | false ↦ plain_follows config w came n e x (begun (w.nodes n)) other m f c no_call (λ i y lt. absurd (omega arith)) refl refl refl
+    ]
+message_follows config w came n e x h (message.Install operation version rule rows) there other s m f c is fit =
+    let node = w.nodes n in
+    let no_call = λ (call : CallRec) (z : result_ok (reading x.bytes) ≡ Some (message.Call call)). let y : Some (message.Install operation version rule rows) ≡ Some (message.Call call) = sym (ap result_ok is) ∙ z in absurd (cc) in
+    elim (is_within node.table.nodes rule) as (λ b. All (λ (l : Letter). Fits l.message) (cond b (install_named node operation version rule rows (name_blocked node.blocked operation)) (begun node)).sent
+    → IsFollowed (After config w n (cond b (install_named node operation version rule rows (name_blocked node.blocked operation)) (begun node))) (put came e true)) [
+      | true ↦ elim (name_blocked node.blocked operation) as (λ o. All (λ (l : Letter). Fits l.message) (install_named node operation version rule rows o).sent → IsFollowed (After config w n (install_named node operation version rule rows o)) (put came e true)) [
+        | None ↦ λ fit. plain_follows config w came n e x (begun node) other m f c no_call fit refl refl refl
+        | Some name ↦ λ fit. plain_follows config w came n e x (install node operation version rule rows name) other m f c no_call fit refl refl refl
+      ]
+      | false ↦ λ fit. plain_follows config w came n e x (begun node) other m f c no_call fit refl refl refl
+    ] fit
 message_follows config w came n e x h (message.Count operation dir) there other s m f c is fit =
     let node = w.nodes n in
     let no_call = λ (call : CallRec) (z : result_ok (reading x.bytes) ≡ Some (message.Call call)). let y : Some (message.Count operation dir) ≡ Some (message.Call call) = sym (ap result_ok is) ∙ z in absurd (cc) in

@@ -1,5 +1,5 @@
 -- Each call under way is found after a client sent, and after it heard.
-use Rattle.std.proofs.Common.{◌≡◌, ◌≢◌, inl, inr, ⊎_elim, ℕ, ◌+◌, ◌<◌, ◌≤◌, Bool, true, false, List, [], ◌∷◌, ◌++◌, length, Option, Some, None, IsTrue, Result, Ok, Err, refl, sym, ap, subst, ◌∙◌, arith}
+use Rattle.std.proofs.Common.{◌≡◌, ◌≢◌, inl, inr, ⊎_elim, ℕ, ◌+◌, ◌<◌, ◌≤◌, Bool, true, false, List, [], ◌∷◌, ◌++◌, length, Option, Some, None, IsTrue, Result, Ok, Err, refl, sym, ap, subst, ◌∙◌, arith, true≢false}
 use Rattle.std.specs.Prelude.{slice_get}
 use Rattle.std.specs.declared.cmp.Ordering.TheVariants.{Less, Greater}
 use Rattle.std.specs.Cmp.{nat_cmp_is}
@@ -14,28 +14,25 @@ use Rattle.fal_base.specs.declared.call.CallId.{CallId}
 use Rattle.fal_base.specs.declared.call.CallRec.{CallRec}
 use Rattle.fal_base.specs.declared.call.Config.{Config}
 use Rattle.fal_base.specs.declared.entry.Entry.TheVariants as entry
+use Rattle.fal_base.specs.declared.event.Actor.{Actor}
 use Rattle.fal_base.specs.declared.event.Actor.TheVariants.{Client, Node}
 use Rattle.fal_base.specs.declared.event.Envelope.{Envelope}
 use Rattle.fal_base.specs.declared.event.Note.{Note}
 use Rattle.fal_base.specs.declared.event.Note.TheVariants as note
 use Rattle.fal_base.specs.declared.event.Output.{Output}
 use Rattle.fal_base.specs.declared.event.Point.TheVariants.{Here, Carried}
-use Rattle.fal_base.specs.declared.op.Op.{Op}
-use Rattle.fal_base.specs.declared.op.Op.TheVariants as op
-use Rattle.fal_base.specs.declared.path.PathArg.{PathArg}
-use Rattle.fal_base.specs.declared.path.PathArg.TheVariants.{Good, Bad}
 use Rattle.fal_base.specs.declared.path.PathFault.{PathFault}
 use Rattle.fal_base.specs.OpPaths.{bad_path}
 use Rattle.fal_base.specs.declared.reply.Reply.{Reply}
+use Rattle.fal_base.specs.declared.rule.RuleChange.{RuleChange}
 use Rattle.fal_base.specs.declared.reply.Reply.TheVariants.{Fail}
 use Rattle.fal_base.specs.Answer.{errno_of}
 use Rattle.fal_client.specs.declared.current.Current.{Current}
 use Rattle.fal_client.specs.declared.event.ClientEvent.TheVariants as client
-use Rattle.fal_client.specs.Paths.{addressee, node_for}
-use Rattle.fal_coord.specs.Walks.{is_operation}
-use Rattle.fal_place.specs.Placement.{route}
+use Rattle.fal_client.specs.Paths.{addressee}
+use Rattle.fal_place.specs.Placement.{route, with_changes}
 use Rattle.fal_client.specs.State.{ClientState, Work as ClientWork, unchanged}
-use Rattle.fal_client.specs.Step.{client_step, begun, skipped, answered, taken, first_try, letter_to, id_at}
+use Rattle.fal_client.specs.Step.{client_step, begun, skipped, answered, retried, taken, first_try, letter_to, id_at}
 use Rattle.fal_base.specs.declared.mark.Mark.{Mark}
 use Rattle.fal_base.specs.Marks.{mark_cmp, mark_of, last_mark, is_newer}
 use Rattle.fal_wire.specs.declared.fault.WireFault.{WireFault}
@@ -44,18 +41,23 @@ use Rattle.fal_wire.specs.declared.message.Message.TheVariants as message
 use Rattle.fal_wire.specs.Messages.{Fits, reading}
 use Rattle.fal_wire.proofs.ReadingLaws.{spelled_reads}
 use Rattle.fal_wire.specs.Letters.{output_of}
-use Rattle.fal_story.proofs.Drain.Follow.{IsUnder, Asked, marks_in, IsBusy, IsFollowed, passed_on, IsTold, IsOver, told_more, under_more}
+use Rattle.fal_wire.specs.Ops.{op_field}
+use Rattle.fal_story.proofs.Drain.ClientGoes.{goes_suited}
+use Rattle.fal_story.proofs.Drain.Follow.{IsUnder, Asked, IsSuited, IsUpTo, marks_in, IsBusy, IsFollowed, passed_on, IsTold, IsOver, told_more, under_more}
 use Rattle.fal_story.proofs.Drain.Moving.{IsMoving}
 use Rattle.fal_story.proofs.Drain.MovingClient.{AfterClient, next_call}
-use Rattle.fal_story.proofs.Drain.Actors.{route_there}
-use Rattle.fal_story.proofs.Drain.MovingDeliver.{post_at, same_node}
+use Rattle.fal_story.proofs.Drain.MovingDeliver.{post_at}
 use Rattle.fal_story.proofs.Drain.Sent.{slice_get_back, posts_long}
-use Rattle.fal_story.proofs.Events.ServedCalls.{call_is, served_at}
-use Rattle.fal_story.proofs.Events.EnabledClient.{sends, gets, gets_own, IsUnheard}
+use Rattle.fal_story.proofs.Events.ClientEvent.{sent_to}
+use Rattle.fal_story.proofs.Events.EnabledClient.{sends, gets, gets_own, IsTaking, IsUnheard}
+use Rattle.fal_story.proofs.Events.Rules.{known_route}
+use Rattle.fal_story.proofs.Events.ServedCalls.{call_is, good_path, served_at}
 use Rattle.fal_story.proofs.Events.Shows.{Ghost, Shows, post_of, posts_of}
-use Rattle.fal_story.proofs.Lists.Grown.{tells, put_all, put_other, slice_get_end}
-use Rattle.fal_story.proofs.View.{Post, post, seat}
-use Rattle.fal_story.proofs.Trees.Standing.{table_of}
+use Rattle.fal_story.proofs.Events.StaleEvent.{again, takes_table, told_now, trying}
+use Rattle.fal_story.proofs.Events.Within.{reached_route, stale_within}
+use Rattle.fal_story.proofs.Lists.Grown.{tells, put_all, put_other, slice_get_below, slice_get_end}
+use Rattle.fal_story.proofs.Lists.Newer.{newer_attempt, newer_past, not_newer_later}
+use Rattle.fal_story.proofs.View.{Post, IsPosted, post, seat}
 use Rattle.fal_story.specs.Clusters.{IsCluster, is_served}
 use Rattle.fal_story.specs.World.{World, put, posted, envelopes_of, entries_of}
 
@@ -107,30 +109,11 @@ before_next w came l s f none some low =
     below : (s q : ℕ) → s < q + 1 → s ≢ q → s < q
     below s q low ne = ⊎_elim (λ t. absurd (ne t.1)) (λ t. grind (arith, nat_tests)) (tells s q)
 
--- a node that is there does not sit where the coordinator does
-no_node : (config : Config) (path : PathArg) (n : ℕ) → IsCluster config → seat (node_for (table_of config) path) ≡ Node n → n ≡ 255 → ⊥
-no_node config (Good names) n cluster to own = let there = route_there config names cluster in let few = cluster.few_nodes in let here : route (table_of config) names ≡ n = same_node (route (table_of config) names) n to in omega arith
-no_node config (Bad fault raw) n cluster to own = let here : 0 ≡ n = same_node 0 n to in omega arith
-
--- what a client sends to the coordinator is an operation
-sent_suited : (config : Config) (call : Op) (n : ℕ) → IsCluster config → IsTrue (is_served call) → bad_path call ≡ None → seat (addressee (table_of config) call) ≡ Node n → n ≡ 255 → IsTrue (is_operation call)
-unfolding addressee bad_path
-sent_suited config (op.Mkdir path mode) n cluster served good to own = absurd (no_node config path n cluster to own)
-sent_suited config (op.Create path mode) n cluster served good to own = absurd (no_node config path n cluster to own)
-sent_suited config (op.Stat path) n cluster served good to own = absurd (no_node config path n cluster to own)
-sent_suited config (op.Access path want) n cluster served good to own = absurd (no_node config path n cluster to own)
-sent_suited config (op.Chmod path mode) n cluster served good to own = absurd (no_node config path n cluster to own)
-sent_suited config (op.Chown path uid gid) n cluster served good to own = absurd (no_node config path n cluster to own)
-sent_suited config (op.Truncate path size) n cluster served good to own = absurd (no_node config path n cluster to own)
-sent_suited config (op.Unlink path) n cluster served good to own = absurd (no_node config path n cluster to own)
-sent_suited config (op.Rmdir (Good path)) n cluster served good to own = refl
-sent_suited config (op.Rmdir (Bad fault raw)) n cluster served good to own = absurd (cc)
-sent_suited config (op.Rename (Good old) (Good new)) n cluster served good to own = refl
-sent_suited config (op.Rename (Good old) (Bad fault raw)) n cluster served good to own = absurd (cc)
-sent_suited config (op.Rename (Bad fault raw) (Good new)) n cluster served good to own = absurd (cc)
-sent_suited config (op.Rename (Bad fault raw) (Bad cause bytes)) n cluster served good to own = absurd (cc)
-sent_suited config (op.List path) n cluster served good to own = absurd (cc)
-sent_suited config (op.Place name rule) n cluster served good to own = absurd (cc)
+-- the post of a client's record, by itself
+mail_is : (w : World) (l n : ℕ) (to : Actor) (m : Message) → seat to ≡ Node n → Fits m
+    → posts_of (envelopes_of (Client l) w.events (length w.commits) (output_of (letter_to to m) ∷ [])) ≡ post (Node n) (length w.commits + 0) m ∷ []
+unfolding output_of
+mail_is w l n to m there fits = λ i. record { to = there i; point = length w.commits + 0; message = result_ok (spelled_reads m fits i) } ∷ []
 
 skips : (config : Config) (w : World) (came : ℕ → Bool) (l : ℕ) (h : Ghost) (call : Call) (fault : PathFault) → Shows config w h → IsFollowed w came → (w.clients l).current ≡ None
     → IsFollowed (AfterClient config w l (skipped (w.clients l) fault)) came
@@ -140,7 +123,7 @@ skips config w came l h call fault s f none =
     let notes = note.Sent c.lane (c.seq + 1) ∷ note.Answered c.lane (c.seq + 1) (Here 0) (Fail (errno_of fault)) ∷ [] in
     client_follows config w came came l (taken c) [] notes [] f refl
     (λ current e. absurd (cc))
-    (λ id ne under. under_more (posts_of w.envelopes) [] came came (marks_in w) w.nodes w.coord id (λ k n p d at fresh. fresh) (λ k p reply at fresh. fresh) under)
+    (λ id ne under. under_more (posts_of w.envelopes) [] came came (marks_in w) w.nodes w.coord id (λ k n p d at fresh. fresh) (λ k p reply at fresh. fresh) (λ k p old new changes at fresh. fresh) under)
     (λ q some at.
     ⊎_elim
     (λ low. told_more w.entries (entries_of (length w.commits) notes) l q (before_next w came l q f none some low))
@@ -153,7 +136,7 @@ skips config w came l h call fault s f none =
 
 begins : (config : Config) (w : World) (came : ℕ → Bool) (l : ℕ) (h : Ghost) (call : Call) → IsCluster config → Shows config w h → IsMoving config w came → IsFollowed w came → (w.clients l).current ≡ None
     → slice_get (w.clients l).left 0 ≡ Some call → bad_path call.op ≡ None → All (λ y. Fits y.message) (begun (w.clients l) call).sent → IsFollowed (AfterClient config w l (begun (w.clients l) call)) came
-unfolding begun output_of
+unfolding begun
 begins config w came l h call cluster s m f none left good fit =
     let c = w.clients l in
     let called = record_of c call in
@@ -161,8 +144,7 @@ begins config w came l h call cluster s m f none left good fit =
     let message_sent = letter_to (addressee c.table call.op) (message.Call called) in
     let notes = note.Sent c.lane (c.seq + 1) ∷ [] in
     let new : Post = post (Node to.0) (length w.commits + 0) (message.Call called) in
-    let posts : posts_of (envelopes_of (Client l) w.events (length w.commits) (output_of message_sent ∷ [])) ≡ new ∷ [] =
-    (λ i. record { to = to.1 i; point = length w.commits + 0; message = result_ok (spelled_reads (message.Call called) (fit 0 message_sent (omega arith)) i) } ∷ []) in
+    let posts = mail_is w l to.0 (addressee c.table call.op) (message.Call called) to.1 (fit 0 message_sent (omega arith)) in
     let long = posts_long w.envelopes in
     let k : ℕ = length (posts_of w.envelopes) in
     let id_is : called.id ≡ id_at l (c.seq + 1) 1 = ap (λ i. id_at i (c.seq + 1) 1) (s.heard l).lane in
@@ -171,10 +153,10 @@ begins config w came l h call cluster s m f none left good fit =
       hop = 0;
       under = Asked k (length w.commits + 0) to.0 called (slice_get_end (posts_of w.envelopes) new) (m.past k (omega arith)) id_is
           (newer_than (mark_of (id_at l (c.seq + 1) 1)) (last_mark (marks_in w to.0) l) (λ b is. let low = f.marks to.0 l b is in omega arith))
-          (sent_suited config call.op to.0 cluster (call_is config l (c.seq + 1) call cluster (next_call config w l h call s left)).served good (ap (λ t. seat (addressee t call.op)) (sym (s.heard l).table) ∙ to.1));
+          (goes_suited config c.table (known_route config w h s l) call.op to.0 m.few (call_is config l (c.seq + 1) call cluster (next_call config w l h call s left)).served good to.1);
       newest = λ i b is. older_seq b (mark_of (id_at l (c.seq + 1) 1)) (let low = f.marks i l b is in omega arith);
     }))
-    (λ id ne under. under_more (posts_of w.envelopes) (new ∷ []) came came (marks_in w) w.nodes w.coord id (λ j n p d at fresh. fresh) (λ j p reply at fresh. fresh) under)
+    (λ id ne under. under_more (posts_of w.envelopes) (new ∷ []) came came (marks_in w) w.nodes w.coord id (λ j n p d at fresh. fresh) (λ j p reply at fresh. fresh) (λ j p old new changes at fresh. fresh) under)
     (λ q some at.
     ⊎_elim
     (λ low. told_more w.entries (entries_of (length w.commits) notes) l q (before_next w came l q f none some low))
@@ -196,11 +178,12 @@ read_is : (r : Result Message WireFault) (m : Message) → result_ok r ≡ Some 
 read_is (Ok n) m e = cc
 read_is (Err fault) m e = absurd (cc)
 
--- the calls of which the answer did not come now
-still_under : (w : World) (came : ℕ → Bool) (l number : ℕ) (x : Envelope) (id : CallId) → slice_get w.envelopes number ≡ Some x → x.to ≡ Client l
-    → ((reply : Reply) → id.client ≡ l → reading x.bytes ≡ Ok (message.Reply id reply) → ⊥) → IsUnder (posts_of w.envelopes) came (marks_in w) w.nodes w.coord id → IsUnder (posts_of w.envelopes ++ []) (put came number true) (marks_in w) w.nodes w.coord id
-still_under w came l number x id at to unheard under =
-    under_more (posts_of w.envelopes) [] came (put came number true) (marks_in w) w.nodes w.coord id
+-- the calls of which no answer and no later table came now
+still_under : (w : World) (came : ℕ → Bool) (l number : ℕ) (x : Envelope) (id : CallId) (more : List Post) → slice_get w.envelopes number ≡ Some x → x.to ≡ Client l
+    → ((reply : Reply) → id.client ≡ l → reading x.bytes ≡ Ok (message.Reply id reply) → ⊥) → ((old new : ℕ) (changes : List RuleChange) → id.client ≡ l → reading x.bytes ≡ Ok (message.Stale id old new changes) → ⊥)
+    → IsUnder (posts_of w.envelopes) came (marks_in w) w.nodes w.coord id → IsUnder (posts_of w.envelopes ++ more) (put came number true) (marks_in w) w.nodes w.coord id
+still_under w came l number x id more at to unheard untold under =
+    under_more (posts_of w.envelopes) more came (put came number true) (marks_in w) w.nodes w.coord id
     (λ k n p d there fresh.
     ⊎_elim
     (λ t. let same = same_post k (post (Node n) p (message.Call d)) t.1 there in let wrong : Client l ≡ Node n = sym (ap seat to) ∙ ap (λ (z : Post). z.to) same in absurd (cc))
@@ -208,10 +191,12 @@ still_under w came l number x id at to unheard under =
     (tells k number))
     (λ k p reply there fresh.
     ⊎_elim
-    (λ t.
-    let same = same_post k (post (Client id.client) p (message.Reply id reply)) t.1 there in
-    let mine : Client l ≡ Client id.client = sym (ap seat to) ∙ ap (λ (z : Post). z.to) same in
-    absurd (unheard reply (lane_same l id.client mine) (read_is (reading x.bytes) (message.Reply id reply) (ap (λ (z : Post). z.message) same))))
+    (λ t. let mine = here k p (message.Reply id reply) t.1 there in absurd (unheard reply mine.0 mine.1))
+    (λ t. put_other came number true k t.1 ∙ fresh)
+    (tells k number))
+    (λ k p old new changes there fresh.
+    ⊎_elim
+    (λ t. let mine = here k p (message.Stale id old new changes) t.1 there in absurd (untold old new changes mine.0 mine.1))
     (λ t. put_other came number true k t.1 ∙ fresh)
     (tells k number))
     under
@@ -222,16 +207,28 @@ still_under w came l number x id at to unheard under =
     same_post : (k : ℕ) (y : Post) → k ≡ number → slice_get (posts_of w.envelopes) k ≡ Some y → post_of x ≡ y
     same_post k y same there = same_Some (post_of x) y (sym (post_at w.envelopes number x at) ∙ ap (slice_get (posts_of w.envelopes)) (sym same) ∙ there)
 
-rests : (config : Config) (w : World) (came : ℕ → Bool) (l number : ℕ) (x : Envelope) → IsFollowed w came → slice_get w.envelopes number ≡ Some x → x.to ≡ Client l → IsUnheard w l x
+    here : (k p : ℕ) (m : Message) → k ≡ number → IsPosted (posts_of w.envelopes) k (Client id.client) p m → (id.client ≡ l) × (reading x.bytes ≡ Ok m)
+    here k p m same there =
+        let is = same_post k (post (Client id.client) p m) same there in
+        let mine : Client l ≡ Client id.client = sym (ap seat to) ∙ ap (λ (z : Post). z.to) is in
+        (lane_same l id.client mine, read_is (reading x.bytes) m (ap (λ (z : Post). z.message) is))
+
+rests : (config : Config) (w : World) (came : ℕ → Bool) (l number : ℕ) (h : Ghost) (x : Envelope) → Shows config w h → IsFollowed w came → slice_get w.envelopes number ≡ Some x → x.to ≡ Client l → IsUnheard w l x
     → IsFollowed (AfterClient config w l (unchanged (w.clients l))) (put came number true)
-rests config w came l number x f at to unheard =
+rests config w came l number h x s f at to unheard =
     let c = w.clients l in
     client_follows config w came (put came number true) l c [] [] [] f refl
     (λ current busy.
     let b = f.busy l current busy in
     let id = passed_on (id_at l c.seq current.attempt) b.hop in
-    record { hop = b.hop; under = still_under w came l number x id at to (λ reply same read. unheard current id reply busy refl refl read) b.under; newest = b.newest })
-    (λ id ne under. still_under w came l number x id at to (λ reply same read. absurd (ne same)) under)
+    record {
+      hop = b.hop;
+      under = still_under w came l number x id [] at to (λ reply same read. unheard.answer current id reply busy refl refl read)
+          (λ old new changes same read. true≢false (sym (stale_within config w h s l number x.point id old new changes (sent_to w l number x (message.Stale id old new changes) at to read)) ∙ unheard.stale current id old new changes busy refl refl read))
+          b.under;
+      newest = b.newest;
+    })
+    (λ id ne under. still_under w came l number x id [] at to (λ reply same read. absurd (ne same)) (λ old new changes same read. absurd (ne same)) under)
     (λ s some over. told_more w.entries [] l s (f.over l s some over))
     (omega arith)
 
@@ -243,7 +240,7 @@ answers config w came l number x h reply s f at to =
     let notes = note.Answered c.lane c.seq (Carried x.point) reply ∷ [] in
     client_follows config w came (put came number true) l (record c { current = None }) [] notes [] f refl
     (λ current e. absurd (cc))
-    (λ id ne under. still_under w came l number x id at to (λ told same read. absurd (ne same)) under)
+    (λ id ne under. still_under w came l number x id [] at to (λ told same read. absurd (ne same)) (λ old new changes same read. absurd (ne same)) under)
     (λ q some over.
     ⊎_elim
     (λ low. told_more w.entries (entries_of (length w.commits) notes) l q (f.over l q some (inl low)))
@@ -253,11 +250,72 @@ answers config w came l number x h reply s f at to =
     over)
     (omega arith)
 
-pub get_follows : (config : Config) (w : World) (came : ℕ → Bool) (l number : ℕ) (h : Ghost) (x : Envelope) (m : ClientWork) → Shows config w h → IsFollowed w came → slice_get w.envelopes number ≡ Some x
-    → client_step (w.clients l) (client.Get x) ≡ Some m → IsFollowed (AfterClient config w l m) (put came number true)
-get_follows config w came l number h x m s f at is =
+-- ---- a later table
+
+-- the next attempt of a call is newer than all that were taken, since these are no newer than the last attempt
+newer_try : (id : CallId) (m : Mark) → IsUpTo m id → is_newer (mark_of (id_at id.client id.seq (id.attempt + 1))) (Some m) ≡ true
+newer_try id m up = newer_past (mark_of id) (mark_of (id_at id.client id.seq (id.attempt + 1))) m (newer_attempt (mark_of id)) up
+
+-- none of which is newer than it
+older_try : (id : CallId) (m : Mark) → IsUpTo m id → IsUpTo m (id_at id.client id.seq (id.attempt + 1))
+older_try id m up = not_newer_later m (mark_of (id_at id.client id.seq (id.attempt + 1))) (Some (mark_of id)) (newer_attempt (mark_of id)) up
+
+newer_than_all : (id : CallId) (o : Option Mark) → ((m : Mark) → o ≡ Some m → IsUpTo m id) → is_newer (mark_of (id_at id.client id.seq (id.attempt + 1))) o ≡ true
+newer_than_all id None up = refl
+newer_than_all id (Some m) up = newer_try id m (up m refl)
+
+-- the call is on its way again, to an actor that is one for it
+takes : (config : Config) (w : World) (came : ℕ → Bool) (l number : ℕ) (h : Ghost) (x : Envelope) (id : CallId) (old new : ℕ) (changes : List RuleChange) (call : Call) (attempt : ℕ) → Shows config w h → IsMoving config w came → IsFollowed w came
+    → slice_get w.envelopes number ≡ Some x → x.to ≡ Client l → IsTaking w l x id old new changes call attempt
+    → All (λ y. Fits y.message) (retried (w.clients l) (record { call = call; attempt = attempt; listing = None }) old new changes).sent
+    → IsFollowed (AfterClient config w l (retried (w.clients l) (record { call = call; attempt = attempt; listing = None }) old new changes)) (put came number true)
+unfolding retried
+takes config w came l number h x id old new changes call attempt s m f at to taking fit =
+    let c = w.clients l in
+    let current : Current = record { call = call; attempt = attempt; listing = None } in
+    let posted = sent_to w l number x (message.Stale id old new changes) at to taking.read in
+    let told = told_now config w h l number x.point id old new changes current s posted taking.busy taking.seq taking.attempt in
+    let table = with_changes c.table new changes in
+    let same_table = takes_table config w h l number x.point id old new changes s posted told in
+    let y = (s.heard l).some current taking.busy in
+    let served : IsTrue (is_served call.op) = subst (λ (k : Call). IsTrue (is_served k.op)) (sym y.1) (s.good.lanes.under_way.served l y.0) in
+    let good = good_path call.op served (subst (λ (k : Call). op_field.Fits k.op) (sym y.1) (s.good.lanes.under_way.fits l y.0)) in
+    let called = again c call (attempt + 1) new in
+    let at_seat = served_at table call.op served in
+    let n = at_seat.0 in
+    let sent = letter_to (addressee table call.op) (message.Call called) in
+    let notes = note.Stale c.lane c.seq old new ∷ [] in
+    let later : ℕ → Bool = put came number true in
+    let mail : Post = post (Node n) (length w.commits + 0) (message.Call called) in
+    let posts = mail_is w l n (addressee table call.op) (message.Call called) at_seat.1 (fit 0 sent (omega arith)) in
+    let long = posts_long w.envelopes in
+    let k : ℕ = length (posts_of w.envelopes) in
+    let below = slice_get_below w.envelopes number x at in
+    let fresh : later k ≡ false = put_other came number true k (λ e. absurd (omega arith)) ∙ m.past k (omega arith) in
+    let id_is : called.id ≡ id_at l c.seq (attempt + 1) = ap (λ i. id_at i c.seq (attempt + 1)) (s.heard l).lane in
+    let b = f.busy l current taking.busy in
+    let was = passed_on (id_at l c.seq attempt) b.hop in
+    let suited : IsSuited n called = goes_suited config table (λ names. subst (λ t. route t names < config.nodes) (sym same_table) (reached_route config w h s new names)) call.op n m.few served good at_seat.1 in
+    client_follows config w came later l (trying c table call (attempt + 1)) (output_of sent ∷ []) notes (mail ∷ []) f posts
+    (λ next e. subst (λ (z : Current). IsBusy (posts_of w.envelopes ++ mail ∷ []) later (marks_in w) w.nodes w.coord (id_at l c.seq z.attempt)) (same_Some (record { call = call; attempt = attempt + 1; listing = None }) next e) (record {
+      hop = 0;
+      under = Asked k (length w.commits + 0) n called (slice_get_end (posts_of w.envelopes) mail) fresh id_is (newer_than_all was (last_mark (marks_in w n) l) (λ z is. b.newest n z is)) suited;
+      newest = λ i z is. older_try was z (b.newest i z is);
+    }))
+    (λ other ne under. still_under w came l number x other (mail ∷ []) at to (λ reply same read. absurd (ne same)) (λ old new changes same read. absurd (ne same)) under)
+    (λ q some over.
+    ⊎_elim
+    (λ low. told_more w.entries (entries_of (length w.commits) notes) l q (f.over l q some (inl low)))
+    (λ z. absurd (let wrong = z.1 in cc))
+    over)
+    (omega arith)
+
+pub get_follows : (config : Config) (w : World) (came : ℕ → Bool) (l number : ℕ) (h : Ghost) (x : Envelope) (m : ClientWork) → Shows config w h → IsMoving config w came → IsFollowed w came → slice_get w.envelopes number ≡ Some x
+    → client_step (w.clients l) (client.Get x) ≡ Some m → All (λ y. Fits y.message) m.sent → IsFollowed (AfterClient config w l m) (put came number true)
+get_follows config w came l number h x m s moving f at is =
     let to = gets_own (w.clients l) x m is ∙ ap Client (s.heard l).lane in
-    gets config w l number h x m (λ y. IsFollowed (AfterClient config w l y) (put came number true)) s at
-    (λ unheard. rests config w came l number x f at to unheard)
-    (λ id reply current a. answers config w came l number x h reply s f at to)
+    gets config w l number h x m (λ y. All (λ z. Fits z.message) y.sent → IsFollowed (AfterClient config w l y) (put came number true)) s at
+    (λ unheard _. rests config w came l number h x s f at to unheard)
+    (λ id reply current a _. answers config w came l number x h reply s f at to)
+    (λ id old new changes call attempt taking fit. takes config w came l number h x id old new changes call attempt s moving f at to taking fit)
     is

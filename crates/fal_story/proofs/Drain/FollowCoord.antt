@@ -1,5 +1,5 @@
 -- Each call under way is found after an event of the coordinator: it keeps the call, or answers it.
-use Rattle.std.proofs.Common.{◌≡◌, ◌⊎◌, inl, inr, ⊎_elim, ℕ, true, false, ◌&&◌, cond, List, [], ◌∷◌, ◌++◌, refl, sym, ap, subst}
+use Rattle.std.proofs.Common.{◌≡◌, ◌⊎◌, inl, inr, ⊎_elim, ℕ, true, false, ◌&&◌, cond, List, [], ◌∷◌, ◌++◌, Option, None, Some, refl, sym, ap, subst}
 use Rattle.std.specs.Prelude.{◌==◌}
 use Rattle.fal_base.specs.declared.call.CallRec.{CallRec}
 use Rattle.fal_base.specs.declared.event.Note.{Note}
@@ -10,20 +10,24 @@ use Rattle.fal_base.specs.declared.reply.Errno.{Errno}
 use Rattle.fal_base.specs.declared.reply.Errno.TheVariants.{Enoent, Enotdir}
 use Rattle.fal_base.specs.declared.reply.Reply.{Reply}
 use Rattle.fal_base.specs.declared.reply.Reply.TheVariants as reply
+use Rattle.fal_base.specs.declared.row.NamedRow.{NamedRow}
 use Rattle.fal_base.specs.declared.row.Update.{Update}
 use Rattle.fal_coord.specs.declared.paths_walk.PathsWalk.{PathsWalk}
 use Rattle.fal_coord.specs.declared.paths_walk.PathsWalk.TheVariants.{Stopped, Lacking, Ready}
 use Rattle.fal_coord.specs.declared.stage.Operation.{Operation}
 use Rattle.fal_coord.specs.declared.stage.Stage.{Stage}
 use Rattle.fal_coord.specs.declared.stage.Stage.TheVariants as stage
-use Rattle.fal_coord.specs.Begin.{walk_step, walked_as, asking, locking, given_up}
+use Rattle.fal_coord.specs.Begin.{walk_step, walked_as, asking, locking, given_up, placing_by, begun_by}
 use Rattle.fal_coord.specs.Decide.{counting, decided, judged_work, commit_note, verdict_on}
-use Rattle.fal_coord.specs.Hear.{learned, found_at, take_found, lock_heard, take_locked, count_heard, take_counted, finish_at, take_done, take_message}
+use Rattle.fal_coord.specs.Hear.{learned, found_at, take_found, lock_heard, take_locked, count_heard, take_counted, finish_at, take_done, block_heard, take_blocked, install_at, take_installed, take_message}
 use Rattle.fal_coord.specs.Judged as judged
 use Rattle.fal_coord.specs.Judged.{Judged, counted_of}
 use Rattle.fal_coord.specs.Nodes.{is_missing, without_node, to_nodes}
+use Rattle.fal_coord.specs.Place.{blocking, install_letters, name_placed, place_refusal, placed_by}
 use Rattle.fal_coord.specs.State.{CoordState, Work, begun, at_stage}
-use Rattle.fal_coord.specs.Walks.{walk_paths, walked_paths}
+use Rattle.fal_coord.specs.Walks.{placing_of, walk_paths, walked_paths}
+use Rattle.fal_move.specs.Moving.{by_parent}
+use Rattle.fal_place.specs.Placement.{Placing, with_rule}
 use Rattle.fal_wire.specs.declared.message.Found.{Found}
 use Rattle.fal_wire.specs.declared.message.Found.TheVariants as found
 use Rattle.fal_wire.specs.declared.message.Message.{Message}
@@ -59,6 +63,16 @@ walked_stays coord call c (Ready walks) one = inl one
 pub walk_stays : (coord : CoordState) (call c : CallRec) → IsOneOf call coord c → StaysHosted (walk_step coord call) c
 unfolding walk_step
 walk_stays coord call c one = walked_stays coord call c (walk_paths coord.replica call.cred (walked_paths call.op)) one
+
+-- a placement is refused, or the coordinator keeps its call
+placing_stays : (coord : CoordState) (call c : CallRec) (placing : Placing) (refused : Option Errno) → IsOneOf call coord c → StaysHosted (placing_by coord call placing refused) c
+unfolding blocking
+placing_stays coord call c placing None one = inl one
+placing_stays coord call c placing (Some errno) one = given_stays coord call c (Here 0) errno one
+
+pub begun_stays : (coord : CoordState) (call c : CallRec) (o : Option Placing) → IsOneOf call coord c → StaysHosted (begun_by coord call o) c
+begun_stays coord call c None one = walk_stays coord call c one
+begun_stays coord call c (Some placing) one = placing_stays coord call c placing (place_refusal coord.table call.cred placing) one
 
 decided_stays : (coord : CoordState) (operation : Operation) (updates : List Update) (notes : List Note) (answer : Reply) (c : CallRec) → IsOneOf operation.call coord c → StaysHosted (decided coord operation updates notes answer) c
 unfolding decided
@@ -121,6 +135,36 @@ done_stays coord number node (stage.Finish keys updates missing) c at one =
     ]
 done_stays coord number node other c at one = at_host coord other c at one
 
+-- a name is placed, and its call answered
+placed_stays : (coord : CoordState) (call c : CallRec) (rows : List NamedRow) (o : Option Placing) → StaysHosted (begun coord) c → IsOneOf call coord c → StaysHosted (placed_by coord call rows o) c
+unfolding name_placed
+placed_stays coord call c rows None stays one = stays
+placed_stays coord call c rows (Some placing) stays one =
+    ⊎_elim
+    (λ same. let told = replied_first call c (Here 0) reply.Fine same in
+    inr (told.0, (told.1.0, in_back (install_letters coord.operation (with_rule coord.table placing.name placing.rule) placing (by_parent rows)) (reply_letter call (Here 0) reply.Fine ∷ []) _ told.1.1)))
+    (λ waits. inl waits)
+    one
+
+blocked_stays : (coord : CoordState) (number node : ℕ) (told : List NamedRow) (t : Stage) (c : CallRec) → coord.stage ≡ t → IsIn c (calls_of t ++ coord.waiting) → StaysHosted (take_blocked coord number node told t) c
+blocked_stays coord number node told (stage.Block call missing rows) c at one =
+    elim ((number == coord.operation) && is_missing node missing) as (λ b. StaysHosted (cond b (block_heard coord call (rows ++ told) (without_node node missing)) (begun coord)) c) [
+      | true ↦ elim (without_node node missing) as (λ ms. StaysHosted (block_heard coord call (rows ++ told) ms) c) [
+        | [] ↦ placed_stays coord call c (rows ++ told) (placing_of call.op) (at_host coord (stage.Block call missing rows) c at one) one
+        | y ∷ ys ↦ inl one
+      ]
+      | false ↦ at_host coord (stage.Block call missing rows) c at one
+    ]
+blocked_stays coord number node told other c at one = at_host coord other c at one
+
+installed_stays : (coord : CoordState) (number node : ℕ) (t : Stage) (c : CallRec) → coord.stage ≡ t → IsIn c (calls_of t ++ coord.waiting) → StaysHosted (begun (take_installed coord number node t)) c
+installed_stays coord number node (stage.Install call missing) c at one =
+    elim ((number == coord.operation) && is_missing node missing) as (λ b. StaysHosted (begun (cond b (at_stage coord (install_at call (without_node node missing))) coord)) c) [
+      | true ↦ elim (without_node node missing) as (λ ms. StaysHosted (begun (at_stage coord (install_at call ms))) c) [ [] ↦ inl one | y ∷ ys ↦ inl one ]
+      | false ↦ at_host coord (stage.Install call missing) c at one
+    ]
+installed_stays coord number node other c at one = at_host coord other c at one
+
 -- each call that is kept is so after the record, which is no call
 pub message_stays : (coord : CoordState) (point : ℕ) (read : Message) (c : CallRec) → ((call : CallRec) → read ≡ message.Call call → ⊥) → IsIn c (hosted coord) → StaysHosted (take_message coord point read) c
 message_stays coord point (message.Call call) c no_call one = absurd (no_call call refl)
@@ -128,4 +172,6 @@ message_stays coord point (message.FetchGot number key what) c no_call one = got
 message_stays coord point (message.Locked number node rows) c no_call one = locked_stays coord number node rows coord.stage c refl one
 message_stays coord point (message.Counted number node count) c no_call one = counted_stays coord number node count coord.stage c refl one
 message_stays coord point (message.Done number node) c no_call one = done_stays coord number node coord.stage c refl one
+message_stays coord point (message.Blocked number node rows) c no_call one = blocked_stays coord number node rows coord.stage c refl one
+message_stays coord point (message.Installed number node) c no_call one = installed_stays coord number node coord.stage c refl one
 message_stays coord point other c no_call one = inl one

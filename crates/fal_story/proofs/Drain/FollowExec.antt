@@ -62,7 +62,7 @@ one_sent : (config : Config) (k : Work) (x : BatchCall) → IsGiven config x →
 unfolding exec_one exec_as
 one_sent config k x given =
     let o = call_outcome k.node.number k.node.rows k.node.drawn x in
-    answer_told x.call (commits_in k.notes) o (exec_one k x).sent (call_back k.node.number k.node.rows k.node.drawn x given.served given.fits) (in_last k.sent (answer_letter x.call (commits_in k.notes) o))
+    answer_told x.call (commits_in k.notes) o (exec_one k x).sent (call_back k.node.number k.node.rows k.node.drawn x given.served given.fits given.rows) (in_last k.sent (answer_letter x.call (commits_in k.notes) o))
 
 one_more : (k : Work) (x : BatchCall) (l : Letter) → IsIn l k.sent → IsIn l (exec_one k x).sent
 unfolding exec_one exec_as
@@ -131,11 +131,11 @@ replied_under w came k taken nodes coord id call past told same =
     subst (λ i. IsUnder (posts_after w k) came taken nodes coord i) same (Answered fresh.0 fresh.1.0 told.1.0 fresh.1.1.0 fresh.1.1.1)
 
 -- a call stays up to its mark where its hop is raised
-up_later : (m : Mark) (id : CallId) → IsUpTo m id → IsUpTo m (passed_on id (id.hop + 1))
+pub up_later : (m : Mark) (id : CallId) → IsUpTo m id → IsUpTo m (passed_on id (id.hop + 1))
 up_later m id up = not_newer_later m (mark_of (passed_on id (id.hop + 1))) (Some (mark_of id)) (newer_hop (mark_of id)) up
 
 -- it is newer there than what anybody has taken
-newer_up : (id : CallId) (o : Option Mark) → ((m : Mark) → o ≡ Some m → IsUpTo m id) → is_newer (mark_of (passed_on id (id.hop + 1))) o ≡ true
+pub newer_up : (id : CallId) (o : Option Mark) → ((m : Mark) → o ≡ Some m → IsUpTo m id) → is_newer (mark_of (passed_on id (id.hop + 1))) o ≡ true
 newer_up id None up = refl
 newer_up id (Some m) up = newer_past (mark_of id) (mark_of (passed_on id (id.hop + 1))) m (newer_hop (mark_of id)) (up m refl)
 
@@ -147,7 +147,7 @@ module _ (config : Config) (w : World) (came : ℕ → Bool) (n : ℕ) (k : Work
       let there : put (marks_in w) n k.node.waiting.last 255 ≡ marks_in w 255 = put_other (marks_in w) n k.node.waiting.last 255 (λ e. other (sym e)) in
       Asked fresh.0 fresh.1.0 255 (raised call) fresh.1.1.0 fresh.1.1.1 (ap (λ (j : CallId). passed_on j (j.hop + 1)) same)
       (subst (λ ms. is_newer (mark_of (passed_on id (id.hop + 1))) (last_mark ms id.client) ≡ true) (sym there) (newer_up id (last_mark (marks_in w 255) id.client) (λ mark is. newest 255 mark is)))
-      (λ _. handed.1.1)
+      ((λ _. handed.1.1), (λ away. absurd (away refl)))
 
 executed_follows : (config : Config) (w : World) (came : ℕ → Bool) (n number : ℕ) (batch : Batch) (k : Work) → n ≢ 255 → IsMoving config w came → IsFollowed w came → All (λ (l : Letter). Fits l.message) k.sent
     → batch_of (w.nodes n) number ≡ Some batch → batch.executed ≡ false → k.node.waiting ≡ (w.nodes n).waiting → k.node.batches ≡ map (as_executed number) (w.nodes n).batches

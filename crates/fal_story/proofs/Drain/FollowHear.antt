@@ -1,5 +1,5 @@
 -- Each call under way is found after a record came to the coordinator, and after it began with a call.
-use Rattle.std.proofs.Common.{◌≡◌, ◌≢◌, inl, ⊎_elim, ℕ, ◌≤◌, Bool, true, false, ◌&&◌, cond, List, [], ◌∷◌, ◌++◌, length, Some, None, Result, Ok, Err, refl, sym, ap, subst, ◌∙◌, arith}
+use Rattle.std.proofs.Common.{◌≡◌, ◌≢◌, inl, ⊎_elim, ℕ, ◌≤◌, Bool, true, false, ◌&&◌, cond, List, [], ◌∷◌, ◌++◌, length, Option, Some, None, Result, Ok, Err, refl, sym, ap, subst, ◌∙◌, arith}
 use Rattle.std.specs.Prelude.{slice_get, ◌==◌}
 use Rattle.std.specs.List.{All}
 use Rattle.std.specs.Result.{result_ok}
@@ -12,7 +12,9 @@ use Rattle.fal_base.specs.declared.event.Envelope.{Envelope}
 use Rattle.fal_base.specs.declared.event.Point.TheVariants.{Here}
 use Rattle.fal_base.specs.declared.key.Key.{Key}
 use Rattle.fal_base.specs.declared.mark.Mark.{Mark}
+use Rattle.fal_base.specs.declared.reply.Errno.{Errno}
 use Rattle.fal_base.specs.declared.reply.Errno.TheVariants.{Ebusy}
+use Rattle.fal_base.specs.declared.row.NamedRow.{NamedRow}
 use Rattle.fal_base.specs.declared.row.Update.{Update}
 use Rattle.fal_base.specs.Marks.{Marks, is_newer, last_mark, mark_of}
 use Rattle.fal_client.specs.Step.{id_at}
@@ -22,15 +24,17 @@ use Rattle.fal_coord.specs.declared.paths_walk.PathsWalk.TheVariants.{Stopped, L
 use Rattle.fal_coord.specs.declared.stage.Operation.{Operation}
 use Rattle.fal_coord.specs.declared.stage.Stage.{Stage}
 use Rattle.fal_coord.specs.declared.stage.Stage.TheVariants as stage
-use Rattle.fal_coord.specs.Begin.{walk_step, walked_as, asking, locking, started, start_first, begin, start, given_up}
+use Rattle.fal_coord.specs.Begin.{walk_step, walked_as, asking, locking, started, start_first, begin, start, given_up, begun_by, placing_by}
 use Rattle.fal_coord.specs.Decide.{counting, decided, judged_work, verdict_on}
-use Rattle.fal_coord.specs.Hear.{taken, take_call, learned, found_at, take_found, lock_heard, take_locked, count_heard, take_counted, finish_at, take_done, take_message, take_read, heard}
+use Rattle.fal_coord.specs.Hear.{taken, take_call, learned, found_at, take_found, lock_heard, take_locked, count_heard, take_counted, finish_at, take_done, block_heard, take_blocked, install_at, take_installed, take_message, take_read, heard}
 use Rattle.fal_coord.specs.Judged as judged
 use Rattle.fal_coord.specs.Judged.{Judged, counted_of}
 use Rattle.fal_coord.specs.Nodes.{is_missing, without_node}
+use Rattle.fal_coord.specs.Place.{blocking, name_placed, place_refusal, placed_by}
 use Rattle.fal_coord.specs.State.{CoordState, Work, begun, at_stage}
 use Rattle.fal_coord.specs.Step.{coord_step}
-use Rattle.fal_coord.specs.Walks.{is_busy, is_operation, walk_paths, walked_paths}
+use Rattle.fal_coord.specs.Walks.{is_busy, is_operation, placing_of, walk_paths, walked_paths}
+use Rattle.fal_place.specs.Placement.{Placing}
 use Rattle.fal_wire.specs.declared.fault.WireFault.{WireFault}
 use Rattle.fal_wire.specs.declared.letter.Letter.{Letter}
 use Rattle.fal_wire.specs.declared.message.Found.{Found}
@@ -39,9 +43,9 @@ use Rattle.fal_wire.specs.declared.message.Message.{Message}
 use Rattle.fal_wire.specs.declared.message.Message.TheVariants as message
 use Rattle.fal_wire.specs.Letters.{reply_letter}
 use Rattle.fal_wire.specs.Messages.{Fits, reading}
-use Rattle.fal_story.proofs.Drain.Follow.{IsUnder, Asked, Waiting, Planned, Hosted, Answered, IsFollowed, IsNewest, IsUpTo, IsSuited, calls_of, hosted, marks_in, passed_on, told_more}
+use Rattle.fal_story.proofs.Drain.Follow.{IsUnder, Asked, Waiting, Planned, Hosted, Answered, Stale, IsFollowed, IsNewest, IsUpTo, IsSuited, calls_of, hosted, marks_in, passed_on, told_more}
 use Rattle.fal_story.proofs.Drain.FollowCall.{same_posted, taken_marks}
-use Rattle.fal_story.proofs.Drain.FollowCoord.{StaysHosted, given_stays, walk_stays, message_stays}
+use Rattle.fal_story.proofs.Drain.FollowCoord.{StaysHosted, given_stays, begun_stays, message_stays}
 use Rattle.fal_story.proofs.Drain.FollowGhost.{asked_by}
 use Rattle.fal_story.proofs.Drain.FollowNode.{AreMarked, marks_stay}
 use Rattle.fal_story.proofs.Drain.Moving.{IsMoving}
@@ -82,7 +86,7 @@ coord_follows config w came later k fit f still marks =
             under = subst (λ ps. IsUnder ps later (taken_of w.nodes k.coord) w.nodes k.coord id) (sym posts)
                 (subst (λ (ms : ℕ → Marks). IsUnder (posts_at w k) later ms w.nodes k.coord id) taken (still id b.under));
             newest = subst (λ (ms : ℕ → Marks). IsNewest ms id) taken
-                (put_all (λ i ms. (m : Mark) → last_mark ms l ≡ Some m → IsUpTo m id) (marks_in w) 255 k.coord.last (marks.newest id refl b.under b.newest) (λ i _. b.newest i));
+                (put_all (λ i ms. (m : Mark) → last_mark ms l ≡ Some m → IsUpTo m id) (marks_in w) 255 k.coord.last (marks.newest id (refl, (current, (is, refl))) b.under b.newest) (λ i _. b.newest i));
           };
       over = λ l s some is. told_more w.entries (entries_of (length w.commits) k.notes) l s (f.over l s some is);
       marks = subst (λ (ms : ℕ → Marks). (i l : ℕ) (m : Mark) → last_mark (ms i) l ≡ Some m → m.seq ≤ (w.clients l).seq) taken
@@ -116,6 +120,9 @@ under_coord w came later k id past others asked stays (Hosted c at is) =
 under_coord w came later k id past others asked stays (Answered i p answer at fresh) =
     Answered i p answer (slice_get_front (posts_of w.envelopes) (letter_posts (length w.commits) k.sent) i _ at)
     (others i (post (Client id.client) p (message.Reply id answer)) at (λ e. let wrong : Client id.client ≡ Node 255 = e in absurd (cc)) fresh)
+under_coord w came later k id past others asked stays (Stale i p old new changes at fresh) =
+    Stale i p old new changes (slice_get_front (posts_of w.envelopes) (letter_posts (length w.commits) k.sent) i _ at)
+    (others i (post (Client id.client) p (message.Stale id old new changes)) at (λ e. let wrong : Client id.client ≡ Node 255 = e in absurd (cc)) fresh)
 
 -- a call that is asked for is so still
 asked_still : (w : World) (later : ℕ → Bool) (k : Work) (i p : ℕ) (id : CallId) (call : CallRec) → IsPosted (posts_of w.envelopes) i (Node 255) p (message.Call call) → later i ≡ false → call.id ≡ id
@@ -135,6 +142,15 @@ walked_last coord call (Ready walks) = refl
 walk_last : (coord : CoordState) (call : CallRec) → (walk_step coord call).coord.last ≡ coord.last
 unfolding walk_step
 walk_last coord call = walked_last coord call (walk_paths coord.replica call.cred (walked_paths call.op))
+
+placing_last : (coord : CoordState) (call : CallRec) (placing : Placing) (refused : Option Errno) → (placing_by coord call placing refused).coord.last ≡ coord.last
+unfolding blocking
+placing_last coord call placing None = refl
+placing_last coord call placing (Some errno) = refl
+
+begun_last : (coord : CoordState) (call : CallRec) (o : Option Placing) → (begun_by coord call o).coord.last ≡ coord.last
+begun_last coord call None = walk_last coord call
+begun_last coord call (Some placing) = placing_last coord call placing (place_refusal coord.table call.cred placing)
 
 judged_last : (coord : CoordState) (operation : Operation) (rows : List Update) (j : Judged) → (judged_work coord operation rows j).coord.last ≡ coord.last
 unfolding decided counting
@@ -178,12 +194,32 @@ done_last coord number node (stage.Finish keys updates missing) =
     elim ((number == coord.operation) && is_missing node missing) as (λ b. (cond b (at_stage coord (finish_at keys updates (without_node node missing))) coord).last ≡ coord.last) [ true ↦ refl | false ↦ refl ]
 done_last coord number node other = refl
 
+placed_last : (coord : CoordState) (call : CallRec) (rows : List NamedRow) (o : Option Placing) → (placed_by coord call rows o).coord.last ≡ coord.last
+unfolding name_placed
+placed_last coord call rows None = refl
+placed_last coord call rows (Some placing) = refl
+
+blocked_last : (coord : CoordState) (number node : ℕ) (told : List NamedRow) (t : Stage) → (take_blocked coord number node told t).coord.last ≡ coord.last
+blocked_last coord number node told (stage.Block call missing rows) =
+    elim ((number == coord.operation) && is_missing node missing) as (λ b. (cond b (block_heard coord call (rows ++ told) (without_node node missing)) (begun coord)).coord.last ≡ coord.last) [
+      | true ↦ elim (without_node node missing) as (λ ms. (block_heard coord call (rows ++ told) ms).coord.last ≡ coord.last) [ [] ↦ placed_last coord call (rows ++ told) (placing_of call.op) | y ∷ ys ↦ refl ]
+      | false ↦ refl
+    ]
+blocked_last coord number node told other = refl
+
+installed_last : (coord : CoordState) (number node : ℕ) (t : Stage) → (take_installed coord number node t).last ≡ coord.last
+installed_last coord number node (stage.Install call missing) =
+    elim ((number == coord.operation) && is_missing node missing) as (λ b. (cond b (at_stage coord (install_at call (without_node node missing))) coord).last ≡ coord.last) [ true ↦ refl | false ↦ refl ]
+installed_last coord number node other = refl
+
 message_last : (coord : CoordState) (point : ℕ) (read : Message) → ((call : CallRec) → read ≡ message.Call call → ⊥) → (take_message coord point read).coord.last ≡ coord.last
 message_last coord point (message.Call call) no_call = absurd (no_call call refl)
 message_last coord point (message.FetchGot number key what) no_call = got_last coord point number key what coord.stage
 message_last coord point (message.Locked number node rows) no_call = locked_last coord number node rows coord.stage
 message_last coord point (message.Counted number node count) no_call = counted_last coord number node count coord.stage
 message_last coord point (message.Done number node) no_call = done_last coord number node coord.stage
+message_last coord point (message.Blocked number node rows) no_call = blocked_last coord number node rows coord.stage
+message_last coord point (message.Installed number node) no_call = installed_last coord number node coord.stage
 message_last coord point other no_call = refl
 
 -- ---- Start
@@ -196,15 +232,17 @@ begins_with coord k stage.Idle (call ∷ calls) at waits is =
     let made : Some (start (started coord calls) call) ≡ Some k = sym (ap (λ cs. start_first coord cs) waits) ∙ is in
     let one = λ (c : CallRec) (here : IsIn c (hosted coord)). subst (λ cs. IsIn c cs) waits (subst (λ u. IsIn c (calls_of u ++ coord.waiting)) at here) in
     subst (λ (y : Work). (y.coord.last ≡ coord.last) × ((c : CallRec) → IsIn c (hosted coord) → StaysHosted y c)) (same_Some (start (started coord calls) call) k made)
-    (elim (is_busy call.op) as (λ b. ((cond b (given_up (started coord calls) call (Here 0) Ebusy) (walk_step (started coord calls) call)).coord.last ≡ coord.last)
-    × ((c : CallRec) → IsIn c (hosted coord) → StaysHosted (cond b (given_up (started coord calls) call (Here 0) Ebusy) (walk_step (started coord calls) call)) c)) [
+    (elim (is_busy call.op) as (λ b. ((cond b (given_up (started coord calls) call (Here 0) Ebusy) (begun_by (started coord calls) call (placing_of call.op))).coord.last ≡ coord.last)
+    × ((c : CallRec) → IsIn c (hosted coord) → StaysHosted (cond b (given_up (started coord calls) call (Here 0) Ebusy) (begun_by (started coord calls) call (placing_of call.op))) c)) [
       | true ↦ (refl, (λ c here. given_stays (started coord calls) call c (Here 0) Ebusy (one c here)))
-      | false ↦ (walk_last (started coord calls) call, (λ c here. walk_stays (started coord calls) call c (one c here)))
+      | false ↦ (begun_last (started coord calls) call (placing_of call.op), (λ c here. begun_stays (started coord calls) call c (placing_of call.op) (one c here)))
     ])
 begins_with coord k (stage.Walk call awaited wanted) calls at waits is = absurd (cc)
 begins_with coord k (stage.Lock operation missing rows) calls at waits is = absurd (cc)
 begins_with coord k (stage.Count operation rows dir updates missing counts) calls at waits is = absurd (cc)
 begins_with coord k (stage.Finish keys updates missing) calls at waits is = absurd (cc)
+begins_with coord k (stage.Block call missing rows) calls at waits is = absurd (cc)
+begins_with coord k (stage.Install call missing) calls at waits is = absurd (cc)
 
 pub start_follows : (config : Config) (w : World) (came : ℕ → Bool) (k : Work) → IsMoving config w came → IsFollowed w came → coord_step w.coord coord_event.Start ≡ Some k → All (λ (l : Letter). Fits l.message) k.sent
     → IsFollowed (coord_after config w k) came
@@ -274,7 +312,7 @@ module _ (config : Config) (w : World) (came : ℕ → Bool) (e : ℕ) (x : Enve
       ⊎_elim
       (λ t.
       let mine : d ≡ call = same_posted old e 255 p x.point d call (subst (λ j. IsPosted old j (Node 255) p (message.Call d)) t.1 at) (posted_call call is) in
-      let due : is_due d ≡ true = both_true (is_operation d.op) (is_newer (mark_of d.id) (last_mark w.coord.last d.id.client)) (suited refl) (subst (λ j. is_newer (mark_of j) (last_mark w.coord.last j.client) ≡ true) (sym same) newer) in
+      let due : is_due d ≡ true = both_true (is_operation d.op) (is_newer (mark_of d.id) (last_mark w.coord.last d.id.client)) (suited.0 refl) (subst (λ j. is_newer (mark_of j) (last_mark w.coord.last j.client) ≡ true) (sym same) newer) in
       let wrong : true ≡ false = sym due ∙ ap (λ y. is_due y) mine ∙ off in
       absurd (cc))
       (λ t. asked_still w later (begun w.coord) i p id d at (put_other came e true i t.1 ∙ fresh) same newer suited)

@@ -12,7 +12,7 @@ use Rattle.fal_run.specs.declared.call.BatchCall.{BatchCall}
 use Rattle.fal_node.specs.declared.item.Item.{Item}
 use Rattle.fal_wire.specs.declared.letter.Letter.{Letter}
 use Rattle.fal_node.specs.Letters.{Work, begun}
-use Rattle.fal_node.specs.Serve.{served, served_as, service_of, shutting}
+use Rattle.fal_node.specs.Serve.{served, served_as, service_of, shutting, blocking}
 use Rattle.fal_node.specs.State.{batch_of, released, without_item}
 use Rattle.fal_base.specs.declared.mark.Mark.{Mark}
 use Rattle.fal_base.specs.Marks.{Marks, mark_of, last_mark, is_newer}
@@ -21,7 +21,7 @@ use Rattle.fal_wait.specs.Waiting.{unbound}
 use Rattle.fal_wire.specs.declared.message.Message.{Message}
 use Rattle.fal_wire.specs.declared.message.Message.TheVariants as message
 use Rattle.fal_wire.specs.Messages.{Fits}
-use Rattle.fal_story.proofs.Drain.Follow.{IsUnder, IsFollowed, IsNumbered, IsUpTo, IsNewest, marks_in, passed_on, told_more, under_node, waiting_now, planned_now, asked_now}
+use Rattle.fal_story.proofs.Drain.Follow.{IsUnder, IsFollowed, IsLast, IsNumbered, IsUpTo, IsNewest, marks_in, passed_on, told_more, under_node, waiting_now, planned_now, asked_now}
 use Rattle.fal_story.proofs.Drain.Moving.{posts_after}
 use Rattle.fal_story.proofs.Drain.Hearing.{After}
 use Rattle.fal_story.proofs.Events.InStep.{letter_posts, posts_sent, at_seat, seat_put}
@@ -42,7 +42,7 @@ IsUnderStill w came later n k = (id : CallId) → IsUnder (posts_of w.envelopes)
 -- the last marks of an actor after its event: of calls that were sent, and of no record that is newer than a lane's last call, while that is under way
 pub record AreMarked (w : World) (came : ℕ → Bool) (last : Marks) : Type 0 where
   pub sent : (l : ℕ) (m : Mark) → last_mark last l ≡ Some m → m.seq ≤ (w.clients l).seq
-  pub newest : (id : CallId) → id.seq ≡ (w.clients id.client).seq → IsUnder (posts_of w.envelopes) came (marks_in w) w.nodes w.coord id → IsNewest (marks_in w) id → (m : Mark) → last_mark last id.client ≡ Some m → IsUpTo m id
+  pub newest : (id : CallId) → IsLast w id → IsUnder (posts_of w.envelopes) came (marks_in w) w.nodes w.coord id → IsNewest (marks_in w) id → (m : Mark) → last_mark last id.client ≡ Some m → IsUpTo m id
 
 -- no record of a call was taken
 pub marks_stay : (w : World) (came : ℕ → Bool) (n : ℕ) (last : Marks) → IsFollowed w came → last ≡ marks_in w n → AreMarked w came last
@@ -62,7 +62,7 @@ pub record IsFoundAfter (w : World) (later : ℕ → Bool) (n : ℕ) (k : Work) 
   pub newest : IsNewest (put (marks_in w) n k.node.waiting.last) (passed_on id hop)
 
 pub found_follows : (config : Config) (w : World) (came later : ℕ → Bool) (n : ℕ) (k : Work) → n ≢ 255 → All (λ (l : Letter). Fits l.message) k.sent → IsFollowed w came
-    → ((id : CallId) → id.seq ≡ (w.clients id.client).seq → IsUnder (posts_of w.envelopes) came (marks_in w) w.nodes w.coord id → IsNewest (marks_in w) id → IsFoundAfter w later n k id)
+    → ((id : CallId) → IsLast w id → IsUnder (posts_of w.envelopes) came (marks_in w) w.nodes w.coord id → IsNewest (marks_in w) id → IsFoundAfter w later n k id)
     → ((l : ℕ) (m : Mark) → last_mark k.node.waiting.last l ≡ Some m → m.seq ≤ (w.clients l).seq) → IsNumbered k.node → IsFollowed (After config w n k) later
 unfolding posted
 found_follows config w came later n k other fit f found marks numbered =
@@ -71,7 +71,7 @@ found_follows config w came later n k other fit f found marks numbered =
     record {
       busy = λ l current is.
           let b = f.busy l current is in
-          let x = found (passed_on (id_at l (w.clients l).seq current.attempt) b.hop) refl b.under b.newest in
+          let x = found (passed_on (id_at l (w.clients l).seq current.attempt) b.hop) (refl, (current, (is, refl))) b.under b.newest in
           let id = passed_on (id_at l (w.clients l).seq current.attempt) x.hop in
           record {
             hop = x.hop;
@@ -117,10 +117,10 @@ keeps_followed config w came n k other fit f last waiting planned numbered =
 
 -- ---- an item is served
 
--- a question changes no call, and a Lock frees each
+-- a question changes no call, nor does a Block, and a Lock frees each
 pub serve_follows : (config : Config) (w : World) (came : ℕ → Bool) (n : ℕ) (item : Item) → n ≢ 255 → All (λ (l : Letter). Fits l.message) (served (w.nodes n) item).sent → IsFollowed w came
     → IsFollowed (After config w n (served (w.nodes n) item)) came
-unfolding served without_item shutting
+unfolding served without_item shutting blocking
 serve_follows config w came n item other fit f = by_kind item.message refl fit
   where
     numbered : IsNumbered (w.nodes n)

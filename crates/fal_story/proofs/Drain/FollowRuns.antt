@@ -56,7 +56,7 @@ module _ (config : Config) (w : World) (came : ℕ → Bool) (cluster : IsCluste
       → IsFollowed u (put came number true)
   got_followed u l number None at is = after_client config w u l None (λ v. IsFollowed v (put came number true)) (λ move there e. absurd (cc)) is
   got_followed u l number (Some x) at is =
-      after_client config w u l (client_step (w.clients l) (client.Get x)) (λ v. IsFollowed v (put came number true)) (λ move there e. get_follows config w came l number k.ghost x move k.shows f at e) is
+      after_client config w u l (client_step (w.clients l) (client.Get x)) (λ v. IsFollowed v (put came number true)) (λ move there e. get_follows config w came l number k.ghost x move k.shows m f at e (client_in_range config w l k.ghost (client.Get x) move cluster there k.shows k.ranged (number, at) e).0.records) is
 
   delivered_followed : (u : World) (n number : ℕ) (o : Option Envelope) → slice_get w.envelopes number ≡ o → done config (node_deed w n (only_where (is_node config n) (node_hears (w.nodes n) o))) ≡ Some u
       → IsFollowed u (put came number true)
@@ -84,7 +84,7 @@ module _ (config : Config) (w : World) (came : ℕ → Bool) (cluster : IsCluste
   step_follows u (event.Deliver n number) at = delivered_followed u n number (slice_get w.envelopes number) refl at
   step_follows u (event.Gather n) at =
       node_followed u n node.Gather (λ work there is. gathers (w.nodes n) work (λ y. All (λ (l : Letter). Fits l.message) y.sent → IsFollowed (After config w n y) came)
-      (λ fit. gather_follows config w came n k.ghost there (no_seat config w came n there m) k.shows f fit) is) tt at
+      (λ fit. gather_follows config w came n k.ghost there (no_seat config w came n there m) k.shows m f fit) is) tt at
   step_follows u (event.Exec n number) at =
       node_followed u n (node.Exec number) (λ work there is. execs (w.nodes n) number work (λ y. All (λ (l : Letter). Fits l.message) y.sent → IsFollowed (After config w n y) came)
       (λ batch found waits fit. exec_follows config w came n number k.ghost batch (no_seat config w came n there m) k.shows m f found waits fit) is) tt at

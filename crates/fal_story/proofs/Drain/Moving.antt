@@ -40,7 +40,7 @@ abbrev pub IsPast : ℕ → (ℕ → Bool) → Type 0
 IsPast count came = (k : ℕ) → count ≤ k → came k ≡ false
 
 -- what is asked of an item, by the kind of its message: that it can be served where no batch is left, no key is shut and no name is blocked.
--- A node keeps nothing but questions and Locks as items
+-- A node keeps nothing but questions, Locks and Blocks as items
 abbrev pub IsServable : Message → Type 0
 IsServable (message.FetchAsk asker number key) = Unit {0}
 IsServable (message.Call call) = ⊥
@@ -56,7 +56,7 @@ IsServable (message.Count op dir) = ⊥
 IsServable (message.Counted op node number) = ⊥
 IsServable (message.Commit op updates) = ⊥
 IsServable (message.Done op node) = ⊥
-IsServable (message.Block op name) = ⊥
+IsServable (message.Block op name) = Unit {0}
 IsServable (message.Blocked op node rows) = ⊥
 IsServable (message.Install op version rule rows) = ⊥
 IsServable (message.Installed op node) = ⊥
@@ -109,7 +109,7 @@ client_moves config w came later l c from sent notes m past go ways fresh =
       staged = subst (λ ps. IsStaged config.nodes ps later w.nodes w.coord) (sym more) (record {
         walking = walking_kept w.coord.stage old (old ++ posts_of es) came later (items_in w) (items_in w) (λ f o. way_more old (posts_of es) later (items_in w) (items_in w) 255 f (λ i item at. at) (ways 255 f o)) m.staged.walking;
         named = m.staged.named;
-        hearing = λ n is. hearing_kept old (old ++ posts_of es) came later w.coord.operation w.coord.stage n (w.nodes n) (w.nodes n) (still_more old old (posts_of es) came later n (fresh n)) refl refl (m.staged.hearing n is);
+        hearing = λ n is. hearing_kept old (old ++ posts_of es) came later w.coord.operation w.coord.stage n (w.nodes n) (w.nodes n) (still_more old old (posts_of es) came later n (fresh n)) refl refl refl (m.staged.hearing n is);
       });
     }
 

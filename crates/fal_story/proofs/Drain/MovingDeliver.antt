@@ -78,19 +78,19 @@ comes_hearing w came n e x k other c here m =
     let later = put came e true in
     put_all (λ i y. IsHearing old came w.coord.operation w.coord.stage i (w.nodes i) → IsHearing (posts_after w k) later w.coord.operation w.coord.stage i y) w.nodes n k.node here
     (λ i apart. hearing_kept old (posts_after w k) came later w.coord.operation w.coord.stage i (w.nodes i) (w.nodes i)
-    (still_more old old (letter_posts (length w.commits) k.sent) came later i (comes_fresh w came n e i x other c (λ y is same read. apart same))) refl refl) m
+    (still_more old old (letter_posts (length w.commits) k.sent) came later i (comes_fresh w came n e i x other c (λ y is same read. apart same))) refl refl refl) m
 
 -- the record is no order
 abbrev pub IsNoOrder : Envelope → Type 0
 IsNoOrder x = (m : Message) → IsOrder m → result_ok (reading x.bytes) ≡ Some m → ⊥
 
 pub plain_hearing : (w : World) (came : ℕ → Bool) (n e : ℕ) (x : Envelope) (k : Work) → n ≢ 255 → IsComing w n e x → IsNoOrder x → k.node.locks.shut ≡ (w.nodes n).locks.shut → k.node.last_operation ≡ (w.nodes n).last_operation
-    → StaysHearing w came (put came e true) n k
-plain_hearing w came n e x k other c none shut last =
+    → k.node.blocked ≡ (w.nodes n).blocked → StaysHearing w came (put came e true) n k
+plain_hearing w came n e x k other c none shut last blocked =
     let old = posts_of w.envelopes in
     comes_hearing w came n e x k other c
     (hearing_kept old (posts_after w k) came (put came e true) w.coord.operation w.coord.stage n (w.nodes n) k.node
-    (still_more old old (letter_posts (length w.commits) k.sent) came (put came e true) n (comes_fresh w came n e n x other c (λ y is same read. none y is read))) shut last)
+    (still_more old old (letter_posts (length w.commits) k.sent) came (put came e true) n (comes_fresh w came n e n x other c (λ y is same read. none y is read))) shut last blocked)
 
 -- a node is no seat
 pub no_seat : (config : Config) (w : World) (came : ℕ → Bool) (n : ℕ) → n < config.nodes → IsMoving config w came → n ≢ 255
@@ -123,13 +123,13 @@ order_moves config w came n e x k there m c no_ask no_got fit go kept servable c
 -- nothing is sent, and the record is no order
 pub other_moves : (config : Config) (w : World) (came : ℕ → Bool) (n e : ℕ) (x : Envelope) (s : NodeState) → n < config.nodes → IsMoving config w came → IsComing w n e x
     → ((i f : ℕ) (key : Key) → result_ok (reading x.bytes) ≡ Some (message.FetchAsk i f key) → ⊥) → ((f : ℕ) (key : Key) (what : Found) → result_ok (reading x.bytes) ≡ Some (message.FetchGot f key what) → ⊥)
-    → IsNoOrder x → s.items ≡ (w.nodes n).items → s.locks ≡ (w.nodes n).locks → s.last_operation ≡ (w.nodes n).last_operation → s.batches ≡ (w.nodes n).batches
+    → IsNoOrder x → s.items ≡ (w.nodes n).items → s.locks ≡ (w.nodes n).locks → s.last_operation ≡ (w.nodes n).last_operation → s.blocked ≡ (w.nodes n).blocked → s.batches ≡ (w.nodes n).batches
     → ((posts : List Post) (later : ℕ → Bool) (items : ℕ → List Item) → AreOnWay posts later items n (w.nodes n).waiting.calls → AreOnWay posts later items n s.waiting.calls)
     → IsMoving config (After config w n (begun s)) (put came e true)
-other_moves config w came n e x s there m c no_ask no_got no_order items locks last batches calls =
+other_moves config w came n e x s there m c no_ask no_got no_order items locks last blocked batches calls =
     order_moves config w came n e x (begun s) there m c no_ask no_got (λ i y lt. absurd (omega arith)) tt (λ item at. subst (IsIn item) (sym items) at) (subst AreServable (sym items) (m.servable n)) calls
     (holders_same (w.nodes n) s batches locks (m.holders n))
-    (plain_hearing w came n e x (begun s) (no_seat config w came n there m) c no_order (ap (λ (t : LockTable). t.shut) locks) last)
+    (plain_hearing w came n e x (begun s) (no_seat config w came n there m) c no_order (ap (λ (t : LockTable). t.shut) locks) last blocked)
 
 -- an order is read as one
 pub same_kind : (m y : Message) → IsOrder y → Some m ≡ Some y → IsOrder m
@@ -155,8 +155,8 @@ call_moves config w came n e x call there m c read =
     let z : Some (message.Call call) ≡ Some (message.FetchGot f key what) = sym (ap result_ok read) ∙ is in absurd (cc) in
     let order = λ (y : Message) (is : IsOrder y) (z : result_ok (reading x.bytes) ≡ Some y). same_kind (message.Call call) y is (sym (ap result_ok read) ∙ z) in
     elim (is_some (row_names call.op)) as (λ b. IsMoving config (After config w n (begun (cond b (admitted node call) node))) (put came e true)) [
-      | true ↦ other_moves config w came n e x (admitted node call) there m c ask got order refl refl refl refl (λ posts later items h. admitted_calls posts later items n node.waiting call h)
-      | false ↦ other_moves config w came n e x node there m c ask got order refl refl refl refl (λ posts later items h. h)
+      | true ↦ other_moves config w came n e x (admitted node call) there m c ask got order refl refl refl refl refl (λ posts later items h. admitted_calls posts later items n node.waiting call h)
+      | false ↦ other_moves config w came n e x node there m c ask got order refl refl refl refl refl (λ posts later items h. h)
     ]
 
 -- ---- a question
@@ -180,7 +180,7 @@ ask_moves config w came n e asker number key x there m c read =
     node_moves config w came later n k there (λ i y lt. absurd (omega arith)) m (came_past w.envelopes e x came c.at m.past) tt
     (each_weaker _ _ node.waiting.calls (λ y h f is. ways n f (h f is)) (m.waits n))
     (λ i f _ o. ways i f o) (each_join (λ (i : Item). IsServable i.message) node.items (item ∷ []) (m.servable n) (tt, tt)) (m.holders n)
-    (plain_hearing w came n e x k (no_seat config w came n there m) c (λ y is z. same_kind (message.FetchAsk asker number key) y is (sym (ap result_ok read) ∙ z)) refl refl)
+    (plain_hearing w came n e x k (no_seat config w came n there m) c (λ y is z. same_kind (message.FetchAsk asker number key) y is (sym (ap result_ok read) ∙ z)) refl refl refl)
 
 -- ---- an answer
 
@@ -202,13 +202,14 @@ got_ways w came n e number key what x k c read items m f other o =
 pub got_moves : (config : Config) (w : World) (came : ℕ → Bool) (n e number : ℕ) (key : Key) (what : Found) (x : Envelope) (k : Work) → n < config.nodes → IsMoving config w came → IsComing w n e x
     → reading x.bytes ≡ Ok (message.FetchGot number key what) → All (λ (l : Letter). Fits l.message) k.sent → Each (λ (l : Letter). IsActor config l.to) k.sent → k.node.items ≡ (w.nodes n).items
     → ((P : ℕ → Type 0) → Each (λ (y : WaitingCall). (f : ℕ) → y.fetch ≡ Some f → f ≢ number → P f) (w.nodes n).waiting.calls → Each (λ (y : WaitingCall). (f : ℕ) → y.fetch ≡ Some f → P f) k.node.waiting.calls)
-    → k.node.locks ≡ (w.nodes n).locks → k.node.last_operation ≡ (w.nodes n).last_operation → k.node.batches ≡ (w.nodes n).batches → IsMoving config (After config w n k) (put came e true)
-got_moves config w came n e number key what x k there m c read fit go items calls locks last batches =
+    → k.node.locks ≡ (w.nodes n).locks → k.node.last_operation ≡ (w.nodes n).last_operation → k.node.blocked ≡ (w.nodes n).blocked → k.node.batches ≡ (w.nodes n).batches
+    → IsMoving config (After config w n k) (put came e true)
+got_moves config w came n e number key what x k there m c read fit go items calls locks last blocked batches =
     let ways = got_ways w came n e number key what x k c read items in
     node_moves config w came (put came e true) n k there fit m (came_past w.envelopes e x came c.at m.past) go
     (calls (λ f. IsOnWay (posts_after w k) (put came e true) (items_after w n k) n f) (each_weaker _ _ (w.nodes n).waiting.calls (λ y h f is ne. ways n f (λ _ same. ne same) (h f is)) (m.waits n)))
     (λ i f ne o. ways i f (λ same _. ne same) o) (subst AreServable (sym items) (m.servable n)) (holders_same (w.nodes n) k.node batches locks (m.holders n))
-    (plain_hearing w came n e x k (no_seat config w came n there m) c (λ y is z. same_kind (message.FetchGot number key what) y is (sym (ap result_ok read) ∙ z)) (ap (λ (t : LockTable). t.shut) locks) last)
+    (plain_hearing w came n e x k (no_seat config w came n there m) c (λ y is z. same_kind (message.FetchGot number key what) y is (sym (ap result_ok read) ∙ z)) (ap (λ (t : LockTable). t.shut) locks) last blocked)
 
 -- a call that was taken off the fetch waits on another one, or on none
 pub off_other : (number : ℕ) (y : WaitingCall) (P : ℕ → Type 0) → ((f : ℕ) → y.fetch ≡ Some f → f ≢ number → P f) → (f : ℕ) → (off_fetch number y).fetch ≡ Some f → P f

@@ -21,6 +21,7 @@ use Rattle.fal_coord.specs.Walks.{is_operation}
 use Rattle.fal_exec.specs.declared.outcome.Change.TheVariants.{Put, Remove}
 use Rattle.fal_exec.specs.declared.outcome.ExecOut.{ExecOut}
 use Rattle.fal_exec.specs.declared.outcome.ExecOut.TheVariants as out
+use Rattle.fal_exec.specs.RowCall.{row_names}
 use Rattle.fal_exec.specs.Outcome.{outcome_of, unless_refused, where_found, without_change, changed, make_outcome, access_outcome, chmod_outcome, chown_outcome, truncate_outcome, unlink_outcome}
 use Rattle.fal_locks.specs.declared.holder.Holder.{Holder}
 use Rattle.fal_locks.specs.Locks.{LockTable}
@@ -68,37 +69,37 @@ changed_back call inode now h = elim (is_dir inode) as (λ b. IsBack call (cond 
 make_back : (call : Op) (row : Option Inode) (parent : Option Dentry) (cred : Cred) (made : Inode) → IsBack call (make_outcome row parent cred made)
 make_back call row parent cred made = checked_back call ((is_some row, Eexist) ∷ (not (kept_grants cred 2 parent), Eacces) ∷ []) (out.Finish Fine (Put made)) tt
 
-outcome_back : (row : Option Inode) (parent : Option Dentry) (cred : Cred) (call : Op) (fresh : ℕ) → IsTrue (is_served call) → op_field.Fits call → IsBack call (outcome_of row parent cred call fresh)
+outcome_back : (row : Option Inode) (parent : Option Dentry) (cred : Cred) (call : Op) (fresh : ℕ) → IsTrue (is_served call) → op_field.Fits call → IsTrue (is_some (row_names call)) → IsBack call (outcome_of row parent cred call fresh)
 unfolding op_field path_and_mode path_and_owner path_arg_field
-outcome_back row parent cred (op.Mkdir path mode) fresh served fits = make_back (op.Mkdir path mode) row parent cred (new_row cred Dir mode fresh)
-outcome_back row parent cred (op.Create path mode) fresh served fits = make_back (op.Create path mode) row parent cred (new_row cred File mode fresh)
-outcome_back row parent cred (op.Stat path) fresh served fits = found_back (op.Stat path) row (λ inode. without_change (Stat inode)) (λ inode. tt)
-outcome_back row parent cred (op.Access path want) fresh served fits =
+outcome_back row parent cred (op.Mkdir path mode) fresh served fits rows = make_back (op.Mkdir path mode) row parent cred (new_row cred Dir mode fresh)
+outcome_back row parent cred (op.Create path mode) fresh served fits rows = make_back (op.Create path mode) row parent cred (new_row cred File mode fresh)
+outcome_back row parent cred (op.Stat path) fresh served fits rows = found_back (op.Stat path) row (λ inode. without_change (Stat inode)) (λ inode. tt)
+outcome_back row parent cred (op.Access path want) fresh served fits rows =
     found_back (op.Access path want) row (access_outcome cred want) (λ inode. checked_back (op.Access path want) ((not (grants cred want inode), Eacces) ∷ []) (without_change Fine) tt)
-outcome_back row parent cred (op.Chmod (Good names) mode) fresh served fits =
+outcome_back row parent cred (op.Chmod (Good names) mode) fresh served fits rows =
     found_back (op.Chmod (Good names) mode) row (chmod_outcome cred mode)
     (λ inode. checked_back (op.Chmod (Good names) mode) ((not (cred.uid == 0 || cred.uid == inode.uid), Eperm) ∷ []) (changed inode (record inode { mode = mode })) (changed_back (op.Chmod (Good names) mode) inode (record inode { mode = mode }) refl))
-outcome_back row parent cred (op.Chmod (Bad fault raw) mode) fresh served fits = absurd (fits.0)
-outcome_back row parent cred (op.Chown (Good names) uid gid) fresh served fits =
+outcome_back row parent cred (op.Chmod (Bad fault raw) mode) fresh served fits rows = absurd (fits.0)
+outcome_back row parent cred (op.Chown (Good names) uid gid) fresh served fits rows =
     found_back (op.Chown (Good names) uid gid) row (chown_outcome cred uid gid)
     (λ inode. checked_back (op.Chown (Good names) uid gid) ((not (cred.uid == 0), Eperm) ∷ []) (changed inode (record inode { uid = uid; gid = gid })) (changed_back (op.Chown (Good names) uid gid) inode (record inode { uid = uid; gid = gid }) refl))
-outcome_back row parent cred (op.Chown (Bad fault raw) uid gid) fresh served fits = absurd (fits.0)
-outcome_back row parent cred (op.Truncate path size) fresh served fits =
+outcome_back row parent cred (op.Chown (Bad fault raw) uid gid) fresh served fits rows = absurd (fits.0)
+outcome_back row parent cred (op.Truncate path size) fresh served fits rows =
     found_back (op.Truncate path size) row (truncate_outcome cred size)
     (λ inode. checked_back (op.Truncate path size) ((is_dir inode, Eisdir) ∷ (not (grants cred 2 inode), Eacces) ∷ []) (out.Finish Fine (Put (record inode { size = size }))) tt)
-outcome_back row parent cred (op.Unlink path) fresh served fits =
+outcome_back row parent cred (op.Unlink path) fresh served fits rows =
     found_back (op.Unlink path) row (unlink_outcome parent cred)
     (λ inode. checked_back (op.Unlink path) ((not (kept_grants cred 2 parent), Eacces) ∷ (is_dir inode, Eperm) ∷ []) (out.Finish Fine Remove) tt)
-outcome_back row parent cred (op.Rmdir path) fresh served fits = tt
-outcome_back row parent cred (op.Rename old new) fresh served fits = tt
-outcome_back row parent cred (op.List path) fresh served fits = absurd (cc)
-outcome_back row parent cred (op.Place name rule) fresh served fits = absurd (cc)
+outcome_back row parent cred (op.Rmdir path) fresh served fits rows = tt
+outcome_back row parent cred (op.Rename old new) fresh served fits rows = tt
+outcome_back row parent cred (op.List path) fresh served fits rows = absurd (cc)
+outcome_back row parent cred (op.Place name rule) fresh served fits rows = absurd (cc)
 
-pub call_back : (number : ℕ) (rows : Tree) (drawn : ℕ) (x : BatchCall) → IsTrue (is_served x.call.op) → op_field.Fits x.call.op → IsBack x.call.op (call_outcome number rows drawn x)
-call_back number rows drawn x served fits =
+pub call_back : (number : ℕ) (rows : Tree) (drawn : ℕ) (x : BatchCall) → IsTrue (is_served x.call.op) → op_field.Fits x.call.op → IsTrue (is_some (row_names x.call.op)) → IsBack x.call.op (call_outcome number rows drawn x)
+call_back number rows drawn x served fits on_rows =
     elim x.denied as (λ b. IsBack x.call.op (cond b (without_change (Fail Eacces)) (outcome_of (row_at rows x.last) x.parent x.call.cred x.call.op (number_after number drawn)))) [
       | true ↦ tt
-      | false ↦ outcome_back (row_at rows x.last) x.parent x.call.cred x.call.op (number_after number drawn) served fits
+      | false ↦ outcome_back (row_at rows x.last) x.parent x.call.cred x.call.op (number_after number drawn) served fits on_rows
     ]
 
 answer_goes : (config : Config) (call : CallRec) (commits : ℕ) (o : ExecOut) → IsTrue (is_lane config call.id.client) → IsActor config (answer_letter call commits o).to
@@ -117,12 +118,14 @@ pub record IsRun (config : Config) (k after : Work) : Type 0 where
   pub numbered : after.node.batches_numbered ≡ k.node.batches_numbered
   pub locks : after.node.locks ≡ k.node.locks
   pub last : after.node.last_operation ≡ k.node.last_operation
+  pub blocked : after.node.blocked ≡ k.node.blocked
   pub go : Each (λ (l : Letter). IsActor config l.to) after.sent
 
--- a call that is served and that a record can hold, of a lane that is there
+-- a call that is served, that a record can hold and that one row decides, of a lane that is there
 pub record IsGiven (config : Config) (x : BatchCall) : Type 0 where
   pub served : IsTrue (is_served x.call.op)
   pub fits : op_field.Fits x.call.op
+  pub rows : IsTrue (is_some (row_names x.call.op))
   pub lane : IsTrue (is_lane config x.call.id.client)
 
 pub run_one : (config : Config) (k : Work) (x : BatchCall) → IsGiven config x → Each (λ (l : Letter). IsActor config l.to) k.sent → IsRun config k (exec_one k x)
@@ -136,16 +139,17 @@ run_one config k x given go =
       numbered = refl;
       locks = refl;
       last = refl;
+      blocked = refl;
       go = each_join (λ (l : Letter). IsActor config l.to) k.sent (answer_letter x.call (commits_in k.notes) o ∷ []) go
           (answer_goes config x.call (commits_in k.notes) o given.lane, tt);
     }
 
 pub run_all : (config : Config) (k : Work) (xs : List BatchCall) → Each (IsGiven config) xs → Each (λ (l : Letter). IsActor config l.to) k.sent → IsRun config k (exec_all k xs)
-run_all config k [] given go = record { calls = refl; items = refl; batches = refl; numbered = refl; locks = refl; last = refl; go = go }
+run_all config k [] given go = record { calls = refl; items = refl; batches = refl; numbered = refl; locks = refl; last = refl; blocked = refl; go = go }
 run_all config k (x ∷ xs) given go =
     let one = run_one config k x given.0 go in
     let rest = run_all config (exec_one k x) xs given.1 one.go in
-    record { calls = rest.calls ∙ one.calls; items = rest.items ∙ one.items; batches = rest.batches ∙ one.batches; numbered = rest.numbered ∙ one.numbered; locks = rest.locks ∙ one.locks; last = rest.last ∙ one.last; go = rest.go }
+    record { calls = rest.calls ∙ one.calls; items = rest.items ∙ one.items; batches = rest.batches ∙ one.batches; numbered = rest.numbered ∙ one.numbered; locks = rest.locks ∙ one.locks; last = rest.last ∙ one.last; blocked = rest.blocked ∙ one.blocked; go = rest.go }
 
 -- the calls of a batch that is not executed are among those that the node keeps
 pub batch_calls_are : (P : BatchCall → Type 0) (bs : List Batch) (b : Batch) → IsIn b bs → b.executed ≡ false → Each P (calls_in bs) → Each P b.calls
@@ -166,6 +170,7 @@ given_calls config w n h xs s planned =
     record {
       served = subst (λ (c : CallRec). IsTrue (is_served c.op)) (sym at.1) (s.good.lanes.under_way.served (planned_lane x) busy);
       fits = subst (λ (c : CallRec). op_field.Fits c.op) (sym at.1) (s.good.lanes.under_way.fits (planned_lane x) busy);
+      rows = at.2;
       lane = lane_there config (view_of config w h) (planned_lane x) s.good busy;
     })
     planned
@@ -187,4 +192,4 @@ exec_moves config w came n number h batch there s m at waits fit =
     let planned = batch_calls_are (PlannedAt h.call h.phase n) node.batches batch where_found.1 waits (s.held n).planned in
     let run = run_all config (begun (with_executed node number)) batch.calls (given_calls config w n h batch.calls s planned) tt in
     keeps_moving config w came n (executed node number batch) there fit m run.go (ap (λ (x : WaitList). x.calls) run.calls) run.items
-    (marked_holders number node (executed node number batch).node run.batches run.locks (m.holders n)) (ap (λ (t : LockTable). t.shut) run.locks) run.last
+    (marked_holders number node (executed node number batch).node run.batches run.locks (m.holders n)) (ap (λ (t : LockTable). t.shut) run.locks) run.last run.blocked

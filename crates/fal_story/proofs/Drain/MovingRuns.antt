@@ -96,7 +96,7 @@ module _ (config : Config) (w : World) (came : ℕ → Bool) (cluster : IsCluste
   heard_moved u number None at is = absurd (cc)
   heard_moved u number (Some x) at is =
       after_coord config w u (coord_step w.coord (coord_event.Hear x)) (λ v. IsMoving config v (put came number true))
-      (λ work e. hear_moves config w came number x k.ghost work cluster k.shows m at e (coord_in_range config w k.ghost (coord_event.Hear x) work cluster few k.shows k.ranged (number, at) e).0.records)
+      (λ work e. hear_moves config w came number x k.ghost work k.shows m at e (coord_in_range config w k.ghost (coord_event.Hear x) work cluster few k.shows k.ranged (number, at) e).0.records)
       is
 
   pub step_moves : (u : World) (e : Event) → step config w e ≡ Some u → IsMoving config u (came_with e came)
@@ -120,7 +120,7 @@ module _ (config : Config) (w : World) (came : ℕ → Bool) (cluster : IsCluste
   step_moves u (event.Hear number) at = heard_moved u number (slice_get w.envelopes number) refl at
   step_moves u event.Start at =
       after_coord config w u (coord_step w.coord coord_event.Start) (λ v. IsMoving config v came)
-      (λ work is. start_moves config w came k.ghost work cluster k.shows m is (coord_in_range config w k.ghost coord_event.Start work cluster few k.shows k.ranged tt is).0.records) at
+      (λ work is. start_moves config w came k.ghost work k.shows m is (coord_in_range config w k.ghost coord_event.Start work cluster few k.shows k.ranged tt is).0.records) at
 
 -- ---- runs
 

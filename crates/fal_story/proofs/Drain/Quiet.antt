@@ -21,9 +21,9 @@ use Rattle.fal_coord.specs.Begin.{begin, start_first}
 use Rattle.fal_coord.specs.Nodes.{is_missing}
 use Rattle.fal_coord.specs.State.{is_idle as is_idle_stage, is_quiet as is_coord_quiet}
 use Rattle.fal_coord.specs.Step.{coord_step}
-use Rattle.fal_locks.specs.Keys.{has_key}
+use Rattle.fal_locks.specs.Keys.{has_key, has_name}
 use Rattle.fal_locks.specs.declared.holder.Holder.{Holder}
-use Rattle.fal_locks.specs.Locks.{LockTable, is_shut, is_held, shut_keys_of}
+use Rattle.fal_locks.specs.Locks.{LockTable, is_shut, is_held, is_name_held, shut_keys_of}
 use Rattle.fal_node.specs.declared.batch.Batch.{Batch}
 use Rattle.fal_node.specs.declared.item.Item.{Item}
 use Rattle.fal_node.specs.Due.{is_quiet}
@@ -34,6 +34,7 @@ use Rattle.fal_wait.specs.declared.waiting_call.WaitingCall.{WaitingCall}
 use Rattle.fal_wire.specs.declared.message.Message.{Message}
 use Rattle.fal_wire.specs.declared.message.Message.TheVariants as message
 use Rattle.fal_story.proofs.Drain.Actors.{IsActor}
+use Rattle.fal_story.proofs.Drain.Blocked.{bar_at, none_blocked, none_of, some_of}
 use Rattle.fal_story.proofs.Drain.Moving.{IsMoving, IsServable, items_in}
 use Rattle.fal_story.proofs.Drain.Fresh.{IsFresh}
 use Rattle.fal_story.proofs.Drain.MovingDeliver.{no_seat}
@@ -42,7 +43,8 @@ use Rattle.fal_story.proofs.Drain.MovingRuns.{legal_moves}
 use Rattle.fal_story.proofs.Drain.Staged.{IsWalking, IsHearing, missing_of}
 use Rattle.fal_story.proofs.Drain.NoneDue.{NoneFresh, none_fresh, none_due}
 use Rattle.fal_story.proofs.Drain.OnWay.{IsOnWay, Asks, Keeps, Gets}
-use Rattle.fal_story.proofs.Events.Going.{GoesOn, fates_go}
+use Rattle.fal_story.proofs.Events.Doing.{name_in}
+use Rattle.fal_story.proofs.Gathers.Going.{GoesOn, fates_go}
 use Rattle.fal_story.proofs.Events.Shows.{Ghost, Shows, IsCurrent, IsTidy, posts_of, locks_in, listed_of}
 use Rattle.fal_story.proofs.Families.Operation.{shut_by}
 use Rattle.fal_story.proofs.Lists.Each.{Each, each_weaker, each_both}
@@ -87,6 +89,8 @@ item_served node (message.Lock operation keys) free can =
     none_any : (keys : List Key) → list_any (λ key. is_held node.locks key) keys ≡ false
     none_any [] = refl
     none_any (key ∷ keys) = ap (λ hs. list_any (λ (x : Holder). has_key x.keys key) hs || list_any (λ key. is_held node.locks key) keys) free.holders ∙ none_any keys
+item_served node (message.Block operation name) free can =
+    ap (λ o. not (is_some o) && not (is_name_held node.locks name)) free.blocked ∙ ap (λ hs. not (list_any (λ (x : Holder). has_name x.keys name) hs)) free.holders
 item_served node other free can = absurd can
 
 no_items : (items : List Item) → Each (λ (i : Item). ⊥) items → items ≡ []
@@ -95,10 +99,10 @@ no_items (x ∷ xs) h = absurd h.0
 
 -- ---- calls
 
--- a call that goes on is not skipped where a batch takes one call
+-- a call that goes on or leaves is not skipped where a batch takes one call
 not_skipped : (limit : ℕ) (f : Fate) → 1 ≤ limit → GoesOn f → is_skipped_by limit f ≡ true → ⊥
 not_skipped limit Skips some going is = absurd going
-not_skipped limit (Leaves to) some going is = absurd going
+not_skipped limit (Leaves to) some going is = absurd (cc)
 not_skipped limit (Waits key) some going is = absurd (cc)
 not_skipped limit (Joins denied parent last keys) some going is = let wrong : (limit == 0) ≡ false = grind (arith, nat_tests) in absurd (cc)
 
@@ -160,38 +164,42 @@ module _ (config : Config) (w : World) (c : ℕ → Bool) (cluster : IsCluster c
   posted_came : (k : ℕ) (y : Post) → slice_get (posts_of w.envelopes) k ≡ Some y → c k ≡ false → ⊥
   posted_came k y at fresh = let x = envelope_at w.envelopes k y at in let came = every_came k x.0 x.1 in absurd (cc)
 
-  -- nothing holds an item back where nothing is shut
-  holds_nothing : (n : ℕ) → n < config.nodes → (w.nodes n).locks.shut ≡ None → HoldsNothing (w.nodes n)
-  holds_nothing n there shut =
+  -- nothing is shut at the node, and nothing is blocked
+  abbrev IsFree : ℕ → Type 0
+  IsFree n = ((w.nodes n).locks.shut ≡ None) × ((w.nodes n).blocked ≡ None)
+
+  -- then nothing holds an item back
+  holds_nothing : (n : ℕ) → n < config.nodes → IsFree n → HoldsNothing (w.nodes n)
+  holds_nothing n there open_now =
       let due = none_due (w.nodes n) (none.no_dues n there) in
       record {
         batches = due.batches;
-        shut = shut;
-        blocked = (s.placed n).blocked;
+        shut = open_now.0;
+        blocked = open_now.1;
         holders = no_holders (w.nodes n).locks.holders (subst (λ bs. Each (λ (h : Holder). (b : Batch) × (IsIn b bs × (b.number ≡ h.number))) (w.nodes n).locks.holders) due.batches (m.holders n));
       }
 
-  items_none : (n : ℕ) → n < config.nodes → (w.nodes n).locks.shut ≡ None → (w.nodes n).items ≡ []
-  items_none n there shut =
+  items_none : (n : ℕ) → n < config.nodes → IsFree n → (w.nodes n).items ≡ []
+  items_none n there open_now =
       let due = none_due (w.nodes n) (none.no_dues n there) in
-      let free = holds_nothing n there shut in
+      let free = holds_nothing n there open_now in
       no_items (w.nodes n).items
       (each_both (λ (i : Item). IsServable i.message) (λ (i : Item). can_serve (w.nodes n) i.message ≡ false) (λ i. ⊥) (w.nodes n).items (λ i is held. let can = item_served (w.nodes n) i.message free is in absurd (cc)) (m.servable n) due.items)
 
   -- nor does a node that is not there
-  no_item : ((n : ℕ) → n < config.nodes → (w.nodes n).locks.shut ≡ None) → (n : ℕ) → (w.nodes n).items ≡ []
+  no_item : ((n : ℕ) → n < config.nodes → IsFree n) → (n : ℕ) → (w.nodes n).items ≡ []
   no_item open_all n =
       elim (nat_lt n config.nodes) as (λ b. nat_lt n config.nodes ≡ b → (w.nodes n).items ≡ []) [
         | true ↦ λ is. let there : n < config.nodes = grind (arith, nat_tests) in items_none n there (open_all n there)
         | false ↦ λ is. let beyond : config.nodes ≤ n = grind (arith, nat_tests) in quiet_items (w.nodes n) (m.beyond n beyond)
       ] refl
 
-  on_way_none : ((n : ℕ) → n < config.nodes → (w.nodes n).locks.shut ≡ None) → (n f : ℕ) → IsOnWay (posts_of w.envelopes) c (items_in w) n f → ⊥
+  on_way_none : ((n : ℕ) → n < config.nodes → IsFree n) → (n f : ℕ) → IsOnWay (posts_of w.envelopes) c (items_in w) n f → ⊥
   on_way_none open_all n f (Asks k p to key at fresh) = posted_came k _ at fresh
   on_way_none open_all n f (Keeps i item key at is) = let none_there : IsIn item [] = subst (IsIn item) (no_item open_all i) at in absurd none_there
   on_way_none open_all n f (Gets k p key what at fresh) = posted_came k _ at fresh
 
-  calls_none : ((n : ℕ) → n < config.nodes → (w.nodes n).locks.shut ≡ None) → (n : ℕ) → n < config.nodes → (w.nodes n).waiting.calls ≡ []
+  calls_none : ((n : ℕ) → n < config.nodes → IsFree n) → (n : ℕ) → n < config.nodes → (w.nodes n).waiting.calls ≡ []
   calls_none open_all n there =
       let node = w.nodes n in
       let due = none_due node (none.no_dues n there) in
@@ -199,7 +207,7 @@ module _ (config : Config) (w : World) (c : ℕ → Bool) (cluster : IsCluster c
       let some : 1 ≤ node.limit = subst (λ i. 1 ≤ i) (sym p.limit) cluster.some_batch in
       no_calls_left node.waiting.calls (each_weaker _ _ node.waiting.calls (λ x way f is. on_way_none open_all n f (way f is)) (m.waits n))
       (each_both _ (λ (x : WaitingCall). x.fetch ≡ None → is_skipped (setting_at node) x.call ≡ true) _ node.waiting.calls
-      (λ x going skipped free. not_skipped node.limit (fate (setting_at node) x.call) some going (skipped free)) (fates_go config w n h there (no_seat config w c n there m) s (open_all n there)) (idle_skips node p.tidy due.idle))
+      (λ x going skipped free. not_skipped node.limit (fate (setting_at node) x.call) some going (skipped free)) (fates_go config w n h (no_seat config w c n there m) s (open_all n there).1 (open_all n there).0) (idle_skips node p.tidy due.idle))
 
   -- ---- the coordinator
 
@@ -209,14 +217,14 @@ module _ (config : Config) (w : World) (c : ℕ → Bool) (cluster : IsCluster c
   -- a walk's question would be served
   walk_none : (call : CallRec) (number : ℕ) (key : Key) → w.coord.stage ≡ stage.Walk call number key → ⊥
   walk_none call number key at =
-      on_way_none (λ n there. walk_open config w h s call number key n at there) 255 number (subst (IsWalking (posts_of w.envelopes) c (items_in w)) at m.staged.walking)
+      on_way_none (λ n there. (walk_open config w h s call number key n at there, none_blocked config w h s (stage.Walk call number key) n at tt there)) 255 number (subst (IsWalking (posts_of w.envelopes) c (items_in w)) at m.staged.walking)
 
-  -- so would a Lock that is queued
-  queued_none : (operation : ℕ) (keys : List Key) (n : ℕ) → n < config.nodes → (w.nodes n).locks.shut ≡ None → h.queued n ≡ Some (message.Lock operation keys) → ⊥
-  queued_none operation keys n there shut queued =
-      let nothing : locks_in (w.nodes n).items ≡ [] = ap (λ items. locks_in items) (items_none n there shut) in
-      let some : locks_in (w.nodes n).items ≡ message.Lock operation keys ∷ [] = s.beside.queues n ∙ ap listed_of queued in
-      let wrong : [] ≡ message.Lock operation keys ∷ [] = sym nothing ∙ some in
+  -- so would a Lock or a Block that is queued
+  queued_none : (order : Message) (n : ℕ) → n < config.nodes → IsFree n → h.queued n ≡ Some order → ⊥
+  queued_none order n there open_now queued =
+      let nothing : locks_in (w.nodes n).items ≡ [] = ap (λ items. locks_in items) (items_none n there open_now) in
+      let some : locks_in (w.nodes n).items ≡ order ∷ [] = s.beside.queues n ∙ ap listed_of queued in
+      let wrong : [] ≡ order ∷ [] = sym nothing ∙ some in
       cc
 
   -- no node is still to be heard
@@ -229,7 +237,7 @@ module _ (config : Config) (w : World) (c : ℕ → Bool) (cluster : IsCluster c
       (λ still.
       ⊎_elim
       (λ away. fresh_none (Node n) (message.Lock w.coord.operation operation.keys) (hearing.away away.2))
-      (λ queued. queued_none w.coord.operation operation.keys n there queued.0 queued.1)
+      (λ queued. queued_none (message.Lock w.coord.operation operation.keys) n there (queued.0, none_blocked config w h s (stage.Lock operation missing rows) n at tt there) queued.1)
       still.1)
       (λ shut. let told = hearing.shut (λ open_now. let wrong : None ≡ shut_by w.coord.operation operation.keys = sym open_now ∙ shut.0 in cc) in fresh_none (Node 255) (message.Locked w.coord.operation n told.0) told.1)
       x.1
@@ -237,6 +245,20 @@ module _ (config : Config) (w : World) (c : ℕ → Bool) (cluster : IsCluster c
       ⊎_elim (λ asked. fresh_none (Node n) (message.Count w.coord.operation dir) asked) (λ told. fresh_none (Node 255) (message.Counted w.coord.operation n told.0) told.1) hearing
   hearing_none (stage.Finish keys updates missing) n at there waits hearing =
       fresh_none (Node n) (message.Commit w.coord.operation updates) (hearing.shut (λ open_now. fresh_none (Node 255) (message.Done w.coord.operation n) (hearing.freed open_now)))
+  hearing_none (stage.Block call missing rows) n at there waits hearing =
+      let x = bar_at config w h s (stage.Block call missing rows) n at there in
+      let y = stands_at config w h s (stage.Block call missing rows) n at there in
+      ⊎_elim
+      (λ still.
+      ⊎_elim
+      (λ away. fresh_none (Node n) (message.Block w.coord.operation (name_in call.op)) (hearing.away away.1))
+      (λ queued. queued_none (message.Block w.coord.operation (name_in call.op)) n there (y.0, none_of (w.nodes n).blocked (s.placed n).blocked still.1) queued.0)
+      still.3)
+      (λ barred. let told = hearing.blocked (some_of (w.nodes n).blocked w.coord.operation (name_in call.op) barred.0) in fresh_none (Node 255) (message.Blocked w.coord.operation n told.0) told.1)
+      x.1
+  hearing_none (stage.Install call missing) n at there waits hearing =
+      let order = hearing.blocked (λ free. fresh_none (Node 255) (message.Installed w.coord.operation n) (hearing.freed free)) in
+      fresh_none (Node n) order.0 order.1.1
 
   nobody_missing : (ns : List ℕ) → missing_of w.coord.stage ≡ ns → ns ≡ []
   nobody_missing [] is = refl
@@ -246,12 +268,14 @@ module _ (config : Config) (w : World) (c : ℕ → Bool) (cluster : IsCluster c
       absurd (hearing_none w.coord.stage n refl (m.staged.named n waits) waits (m.staged.hearing n waits))
 
   -- no operation is under way
-  stage_idle : (t : Stage) → w.coord.stage ≡ t → IsCurrent h.call h.phase t → t ≡ stage.Idle
+  stage_idle : (t : Stage) → w.coord.stage ≡ t → IsCurrent config.nodes w.coord.table h.call h.phase t → t ≡ stage.Idle
   stage_idle stage.Idle at current = refl
   stage_idle (stage.Walk call number key) at current = absurd (walk_none call number key at)
   stage_idle (stage.Lock operation missing rows) at current = absurd (current.2 (nobody_missing missing (ap missing_of at)))
   stage_idle (stage.Count operation rows dir updates missing counts) at current = absurd (current.2 (nobody_missing missing (ap missing_of at)))
   stage_idle (stage.Finish keys updates missing) at current = absurd (current (nobody_missing missing (ap missing_of at)))
+  stage_idle (stage.Block call missing rows) at current = absurd (current.2 (nobody_missing missing (ap missing_of at)))
+  stage_idle (stage.Install call missing) at current = absurd (current (nobody_missing missing (ap missing_of at)))
 
   idle_now : w.coord.stage ≡ stage.Idle
   idle_now = stage_idle w.coord.stage refl s.beside.hosts.current
@@ -274,8 +298,8 @@ module _ (config : Config) (w : World) (c : ℕ → Bool) (cluster : IsCluster c
   coord_quiet : is_coord_quiet w.coord ≡ true
   coord_quiet = ap (λ (cs : List CallRec). (length cs == 0) && is_idle_stage w.coord.stage) none_waiting ∙ ap (λ t. is_idle_stage t) idle_now
 
-  all_open : (n : ℕ) → n < config.nodes → (w.nodes n).locks.shut ≡ None
-  all_open n there = idle_open config w h s n idle_now there
+  all_open : (n : ℕ) → n < config.nodes → IsFree n
+  all_open n there = (idle_open config w h s n idle_now there, none_blocked config w h s stage.Idle n idle_now tt there)
 
   pub all_quiet : IsQuiet config w c
   all_quiet = record {

@@ -13,7 +13,7 @@ use Rattle.fal_node.specs.State.{NodeState}
 use Rattle.fal_place.specs.Placement.{Placement}
 use Rattle.fal_run.specs.declared.call.BatchCall.{BatchCall}
 use Rattle.fal_story.proofs.Events.Doing.{work_of}
-use Rattle.fal_story.proofs.Events.Shows.{Ghost, Beside, Holds, Hosts, IsCurrent, WaitsThere, is_holding, locks_in, listed_of}
+use Rattle.fal_story.proofs.Events.Shows.{Ghost, Beside, Holds, Hosts, IsCurrent, WaitsThere, is_holding, locks_in, listed_of, before_in}
 use Rattle.fal_story.proofs.Families.Operation.{IsOf}
 use Rattle.fal_story.proofs.Lists.Each.{Each, each_weaker}
 use Rattle.fal_story.proofs.Lists.Grown.{put_all, tells}
@@ -54,8 +54,8 @@ module _ (call call' : ℕ → CallRec) (phase later : ℕ → Phase) (same : (l
       (λ x. absurd (x.0 (subst (IsHeld 255) (sym w.0) refl)))
       (same c.id.client)
 
-  walks_kept : (c : CallRec) (number : ℕ) (key : Key) → IsCurrent call phase (stage.Walk c number key) → IsCurrent call' later (stage.Walk c number key)
-  walks_kept c number key w = ⊎_elim
+  walks_kept : (nodes : ℕ) (table : Placement) (c : CallRec) (number : ℕ) (key : Key) → IsCurrent nodes table call phase (stage.Walk c number key) → IsCurrent nodes table call' later (stage.Walk c number key)
+  walks_kept nodes table c number key w = ⊎_elim
       (λ x. (w.0 ∙ sym x.1, x.0 ∙ w.1, w.2, w.3))
       (λ x. absurd (x.0 (subst (IsHeld 255) (sym w.1) refl)))
       (same c.id.client)
@@ -63,26 +63,28 @@ module _ (call call' : ℕ → CallRec) (phase later : ℕ → Phase) (same : (l
   runs_kept : (c : CallRec) → phase c.id.client ≡ Runs → c ≡ call c.id.client → c ≡ call' c.id.client
   runs_kept c runs is = ⊎_elim (λ x. is ∙ sym x.1) (λ x. absurd (x.1 runs)) (same c.id.client)
 
-  current_kept : (before : Placement) (s : Stage) → ((l : ℕ) → IsOf l (work_of before s) → phase l ≡ Runs) → IsCurrent call phase s → IsCurrent call' later s
-  current_kept before stage.Idle running c = tt
-  current_kept before (stage.Walk call number key) running c = walks_kept call number key c
-  current_kept before (stage.Lock operation missing rows) running c = (runs_kept operation.call (running operation.call.id.client refl) c.0, c.1, c.2)
-  current_kept before (stage.Count operation rows dir updates missing counts) running c = (runs_kept operation.call (running operation.call.id.client refl) c.0, c.1, c.2, c.3)
-  current_kept before (stage.Finish keys updates missing) running c = c
+  current_kept : (nodes : ℕ) (table before : Placement) (s : Stage) → ((l : ℕ) → IsOf l (work_of before s) → phase l ≡ Runs) → IsCurrent nodes table call phase s → IsCurrent nodes table call' later s
+  current_kept nodes table before stage.Idle running c = tt
+  current_kept nodes table before (stage.Walk call number key) running c = walks_kept nodes table call number key c
+  current_kept nodes table before (stage.Lock operation missing rows) running c = (runs_kept operation.call (running operation.call.id.client refl) c.0, c.1, c.2)
+  current_kept nodes table before (stage.Count operation rows dir updates missing counts) running c = (runs_kept operation.call (running operation.call.id.client refl) c.0, c.1, c.2, c.3)
+  current_kept nodes table before (stage.Finish keys updates missing) running c = c
+  current_kept nodes table before (stage.Block call missing rows) running c = (runs_kept call (running call.id.client refl) c.0, c.1, c.2)
+  current_kept nodes table before (stage.Install call missing) running c = c
 
   -- the calls that the coordinator keeps stay as they are
   pub hosts_kept : (config : Config) (before : Placement) (c : CoordState) → ((l : ℕ) → IsOf l (work_of before c.stage) → phase l ≡ Runs) → Hosts config call phase c → Hosts config call' later c
   hosts_kept config before c running h = record {
-    table = h.table;
     waiters = each_weaker (WaitsThere call phase) (WaitsThere call' later) c.waiting waits_kept h.waiters;
     apart = h.apart;
-    current = current_kept before c.stage running h.current;
+    current = current_kept config.nodes c.table before c.stage running h.current;
+    numbered = h.numbered;
   }
 
 -- ---- a node's step
 
 -- a node changes, and calls of it move or are handed on
-pub beside_stepped : (config : Config) (nodes : ℕ → NodeState) (coord : CoordState) (h later : Ghost) (n : ℕ) (y : NodeState) → ((l : ℕ) → IsOf l (work_of h.before coord.stage) → h.phase l ≡ Runs)
+pub beside_stepped : (config : Config) (nodes : ℕ → NodeState) (coord : CoordState) (h later : Ghost) (n : ℕ) (y : NodeState) → ((l : ℕ) → IsOf l (work_of (before_in config h) coord.stage) → h.phase l ≡ Runs)
     → ((l : ℕ) → StaysThere h.call later.call h.phase later.phase l)
     → ((m l : ℕ) (p : BatchCall) → m ≢ n → later.phase l ≡ Plans m p → (h.phase l ≡ Plans m p) × (h.crossed l ≡ later.crossed l))
     → ((m : ℕ) → m ≢ n → later.queued m ≡ h.queued m)
@@ -91,7 +93,7 @@ beside_stepped config nodes coord h later n y running same planned queued locks 
   queues = put_all (λ m x. locks_in x.items ≡ listed_of (later.queued m)) nodes n y locks (λ m apart. b.queues m ∙ ap listed_of (sym (queued m apart)));
   holding = put_all (λ m x. Holds later.phase later.crossed m x) nodes n y holding
       (λ m apart. holds_kept h.phase later.phase h.crossed later.crossed m (nodes m) (nodes m) refl refl refl (λ l p is. planned m l p apart is) (b.holding m));
-  hosts = hosts_kept h.call later.call h.phase later.phase same config h.before coord running b.hosts;
+  hosts = hosts_kept h.call later.call h.phase later.phase same config (before_in config h) coord running b.hosts;
 }
 
 -- a node changes that keeps its batches, holders and Locks, and no call moves
@@ -108,7 +110,7 @@ beside_still config nodes coord h n y items batches holders numbered b = record 
 -- ---- a client's step
 
 -- a lane's call begins or ends, and no actor has it before or after
-pub beside_at_client : (config : Config) (nodes : ℕ → NodeState) (coord : CoordState) (h : Ghost) (l : ℕ) (call : ℕ → CallRec) (since : ℕ → ℕ) (phase : ℕ → Phase) → ((l : ℕ) → IsOf l (work_of h.before coord.stage) → h.phase l ≡ Runs)
+pub beside_at_client : (config : Config) (nodes : ℕ → NodeState) (coord : CoordState) (h : Ghost) (l : ℕ) (call : ℕ → CallRec) (since : ℕ → ℕ) (phase : ℕ → Phase) → ((l : ℕ) → IsOf l (work_of (before_in config h) coord.stage) → h.phase l ≡ Runs)
     → (IsHeld 255 (h.phase l) → ⊥) → h.phase l ≢ Runs → ((n : ℕ) (p : BatchCall) → phase l ≢ Plans n p) → ((m : ℕ) → m ≢ l → (phase m ≡ h.phase m) × (call m ≡ h.call m)) → Beside config nodes coord h
     → Beside config nodes coord (record h { call = call; since = since; phase = phase })
 beside_at_client config nodes coord h l call since phase running free idle unplanned same b = record {
@@ -124,5 +126,5 @@ beside_at_client config nodes coord h l call since phase running free idle unpla
       (λ here. inr (subst (λ i. (IsHeld 255 (h.phase i) → ⊥) × (h.phase i ≢ Runs)) (sym here.1) (free, idle)))
       (λ other. inl (same m other.1))
       (tells m l))
-      config h.before coord running b.hosts;
+      config (before_in config h) coord running b.hosts;
 }

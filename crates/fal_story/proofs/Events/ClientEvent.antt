@@ -1,39 +1,37 @@
 -- A client sends its next call.
-use Rattle.std.proofs.Common.{◌≡◌, ◌≢◌, inl, ℕ, zero, suc, ◌+◌, ◌<◌, List, [], ◌∷◌, ◌++◌, length, drop, map, Option, Some, None, refl, sym, ap, ◌∙◌, subst, arith, append-nil}
+use Rattle.std.proofs.Common.{◌≡◌, ◌≢◌, inl, ℕ, suc, ◌+◌, ◌<◌, List, [], ◌∷◌, ◌++◌, length, drop, map, Option, Some, None, Ok, refl, sym, ap, ◌∙◌, subst, arith, append-nil}
 use Rattle.std.specs.Prelude.{slice_get, IsTrue}
 use Rattle.std.specs.List.{All}
+use Rattle.std.specs.Option.{option_map}
 use Rattle.std.specs.Result.{result_ok}
 use Rattle.std.proofs.lemmas.List.{map-append}
-use Rattle.std.proofs.lemmas.Option.{same_Some}
+use Rattle.std.proofs.lemmas.Option.{same_Some, slice_get-map}
 use Rattle.fal_base.specs.declared.call.Call.{Call}
 use Rattle.fal_base.specs.declared.call.CallRec.{CallRec}
 use Rattle.fal_base.specs.declared.call.Config.{Config}
 use Rattle.fal_base.specs.declared.entry.Entry.TheVariants as entry
 use Rattle.fal_base.specs.declared.event.Actor.{Actor}
-use Rattle.fal_base.specs.declared.event.Actor.TheVariants.{Client, Node, Coord}
+use Rattle.fal_base.specs.declared.event.Actor.TheVariants.{Client, Node}
+use Rattle.fal_base.specs.declared.event.Envelope.{Envelope}
 use Rattle.fal_base.specs.declared.event.Note.TheVariants as note
 use Rattle.fal_base.specs.declared.event.Point.TheVariants.{Here}
-use Rattle.fal_base.specs.declared.op.Op.{Op}
-use Rattle.fal_base.specs.declared.op.Op.TheVariants as op
-use Rattle.fal_base.specs.declared.path.PathArg.{PathArg}
-use Rattle.fal_base.specs.declared.path.PathArg.TheVariants.{Good as GoodPath, Bad}
 use Rattle.fal_base.specs.declared.path.PathFault.{PathFault}
 use Rattle.fal_base.specs.declared.reply.Reply.TheVariants.{Fail}
 use Rattle.fal_base.specs.Answer.{errno_of}
-use Rattle.fal_base.specs.Transcript.{call_of, numbered, lane_call}
+use Rattle.fal_base.specs.Transcript.{call_of}
 use Rattle.fal_client.specs.declared.current.Current.{Current}
 use Rattle.fal_client.specs.declared.event.ClientEvent.TheVariants as client
 use Rattle.fal_base.specs.OpPaths.{bad_path}
-use Rattle.fal_client.specs.Paths.{addressee, node_for}
+use Rattle.fal_client.specs.Paths.{addressee}
 use Rattle.fal_client.specs.State.{ClientState, Work as ClientWork, unchanged}
 use Rattle.fal_client.specs.Step.{client_step, sent_next, started, begun, skipped, taken, first_try, letter_to, id_at}
-use Rattle.fal_place.specs.Placement.{Placement, route}
+use Rattle.fal_place.specs.Placement.{Placement}
 use Rattle.fal_run.specs.declared.call.BatchCall.{BatchCall}
 use Rattle.fal_node.specs.declared.item.Item.{Item}
 use Rattle.fal_wait.specs.declared.waiting_call.WaitingCall.{WaitingCall}
 use Rattle.fal_wire.specs.declared.message.Message.{Message}
 use Rattle.fal_wire.specs.declared.message.Message.TheVariants as message
-use Rattle.fal_wire.specs.Messages.{Fits}
+use Rattle.fal_wire.specs.Messages.{Fits, reading}
 use Rattle.fal_wire.proofs.ReadingLaws.{spelled_reads}
 use Rattle.fal_wire.specs.Letters.{output_of}
 use Rattle.fal_story.proofs.Events.Besides.{beside_at_client}
@@ -46,8 +44,8 @@ use Rattle.fal_story.proofs.Phase.{Phase, Idle, Asked, Plans, Runs, IsHeld}
 use Rattle.fal_story.proofs.Steps.Called.{IsNext, asked_good}
 use Rattle.fal_story.proofs.Steps.Posted.{posted_good}
 use Rattle.fal_story.proofs.Steps.Skipped.{skipped_good}
-use Rattle.fal_story.proofs.View.{View, Post, post, plain, seat}
-use Rattle.fal_story.specs.Clusters.{IsCluster, IsCall, is_served, is_lane}
+use Rattle.fal_story.proofs.View.{View, Post, IsPosted, post, plain, seat}
+use Rattle.fal_story.specs.Clusters.{IsCluster, is_lane}
 use Rattle.fal_story.specs.World.{World, put, posted, envelope_of}
 
 abbrev pub EndsClient : Config → World → ℕ → ClientWork → Type 0
@@ -62,26 +60,30 @@ held_elsewhere call call' phase phase' l free same n ws ps h =
     let apart : (m : ℕ) → IsHeld n (phase m) → m ≢ l = λ m at e. free n (subst (λ i. IsHeld n (phase i)) e at) in
     record {
       waiters = each_weaker (WaitsAt call phase n) (WaitsAt call' phase' n) ws
-          (λ x at. let o = same (lane_of x) (apart (lane_of x) (subst (IsHeld n) (sym at.0) refl)) in (o.0 ∙ at.0, at.1 ∙ sym o.1, at.2)) h.waiters;
+          (λ x at. let o = same (lane_of x) (apart (lane_of x) (subst (IsHeld n) (sym at.0) refl)) in (o.0 ∙ at.0, at.1 ∙ sym o.1, at.2, at.3)) h.waiters;
       planned = each_weaker (PlannedAt call phase n) (PlannedAt call' phase' n) ps
-          (λ x at. let o = same (planned_lane x) (apart (planned_lane x) (subst (IsHeld n) (sym at.0) refl)) in (o.0 ∙ at.0, at.1 ∙ sym o.1)) h.planned;
+          (λ x at. let o = same (planned_lane x) (apart (planned_lane x) (subst (IsHeld n) (sym at.0) refl)) in (o.0 ∙ at.0, at.1 ∙ sym o.1, at.2)) h.planned;
       waiters_apart = h.waiters_apart;
       planned_apart = h.planned_apart;
     }
 
 -- more records are sent
-sent_more : (posts more : List Post) (n : ℕ) (items : List Item) → AreSent posts n items → AreSent (posts ++ more) n items
+pub sent_more : (posts more : List Post) (n : ℕ) (items : List Item) → AreSent posts n items → AreSent (posts ++ more) n items
 sent_more posts more n items h = each_weaker _ _ items (λ item at. (at.0, (at.1.0, slice_get_front posts more at.0 _ at.1.1))) h
+
+-- a record that comes to a client was sent to it
+pub sent_to : (w : World) (l number : ℕ) (x : Envelope) (m : Message) → slice_get w.envelopes number ≡ Some x → x.to ≡ Client l → reading x.bytes ≡ Ok m → IsPosted (posts_of w.envelopes) number (Client l) x.point m
+sent_to w l number x m at to read =
+    slice_get-map (λ e. post_of e) w.envelopes number ∙ ap (option_map (λ e. post_of e)) at ∙ (λ i. Some (record { to = seat (to i); point = x.point; message = result_ok (read i) }))
 
 -- another client hears nothing of it
 pub heard_other : (config : Config) (call call' : ℕ → CallRec) (phase phase' : ℕ → Phase) (m : ℕ) (c : ClientState) → phase' m ≡ phase m → call' m ≡ call m → Heard config call phase m c → Heard config call' phase' m c
 heard_other config call call' phase phase' m c same_phase same_call x = record {
   lane = x.lane;
   nodes = x.nodes;
-  table = x.table;
   left = x.left;
   none = λ e. same_phase ∙ x.none e;
-  some = λ current e. let y = x.some current e in ((λ z. y.0 (sym same_phase ∙ z)), y.1 ∙ ap plain (sym same_call), y.2, y.3);
+  some = λ current e. let y = x.some current e in ((λ z. y.0 (sym same_phase ∙ z)), y.1 ∙ ap plain (sym same_call), y.2 ∙ ap (λ (z : CallRec). z.id.attempt) (sym same_call), y.3);
 }
 
 drop_one : {A : Type 0} (xs : List A) (k : ℕ) → slice_get (drop 1 xs) k ≡ slice_get xs (suc k)
@@ -142,12 +144,11 @@ next_is config w l h call cluster s left none =
 -- the next call is taken, and is sent or answered
 heard_next : (config : Config) (call' : ℕ → CallRec) (phase phase' : ℕ → Phase) (call : ℕ → CallRec) (l : ℕ) (c : ClientState) (current : Option Current)
     → (current ≡ None → phase' l ≡ Idle)
-    → ((x : Current) → current ≡ Some x → (phase' l ≢ Idle) × (x.call ≡ plain (call' l)) × (x.attempt ≡ 1) × (x.listing ≡ None))
+    → ((x : Current) → current ≡ Some x → (phase' l ≢ Idle) × (x.call ≡ plain (call' l)) × (x.attempt ≡ (call' l).id.attempt) × (x.listing ≡ None))
     → Heard config call phase l c → Heard config call' phase' l (record (taken c) { current = current })
 heard_next config call' phase phase' call l c current none some x = record {
   lane = x.lane;
   nodes = x.nodes;
-  table = x.table;
   left = λ k. drop_one c.left k ∙ x.left (suc k) ∙ ap (call_of config l) (one_more c.seq k);
   none = none;
   some = some;
@@ -157,6 +158,14 @@ heard_next config call' phase phase' call l c current none some x = record {
 one_post : (from : Actor) (event commits : ℕ) (to : Actor) (m : Message) → Fits m → post_of (envelope_of from event commits (output_of (letter_to to m))) ≡ post (seat to) commits m
 unfolding output_of
 one_post from event commits to m fits = λ i. record { to = seat to; point = sym (zero_more commits) i; message = ap result_ok (spelled_reads m fits) i }
+
+-- the posts after a client's one record
+pub posts_with : (w : World) (l n : ℕ) (to : Actor) (m : Message) → seat to ≡ Node n → Fits m
+    → posts_of w.envelopes ++ post (Node n) (length w.commits) m ∷ [] ≡ posts_of (w.envelopes ++ envelope_of (Client l) w.events (length w.commits) (output_of (letter_to to m)) ∷ [])
+posts_with w l n to m there fits =
+    let count = length w.commits in
+    sym (map-append (λ e. post_of e) w.envelopes (envelope_of (Client l) w.events count (output_of (letter_to to m)) ∷ [])
+    ∙ ap (λ p. posts_of w.envelopes ++ p ∷ []) (one_post (Client l) w.events count to m fits ∙ ap (λ a. post a count m) there))
 
 skips : (config : Config) (w : World) (l : ℕ) (h : Ghost) (call : Call) (fault : PathFault) → IsCluster config → Shows config w h → slice_get (w.clients l).left 0 ≡ Some call → (w.clients l).current ≡ None
     → bad_path call.op ≡ Some fault → EndsClient config w l (skipped (w.clients l) fault)
@@ -227,8 +236,7 @@ begins config w l h call cluster s left none good fit =
     let new : ClientState = record (taken c) { current = Some (first_try call) } in
     let after : World = posted config (record w { clients = put w.clients l new }) (Client l) (output_of sent ∷ []) (note.Sent c.lane (c.seq + 1) ∷ []) in
     let posts : posts_of w.envelopes ++ post (Node n) count (message.Call called) ∷ [] ≡ posts_of after.envelopes =
-    sym (map-append (λ e. post_of e) w.envelopes (envelope_of (Client l) w.events count (output_of sent) ∷ [])
-    ∙ ap (λ p. posts_of w.envelopes ++ p ∷ []) (one_post (Client l) w.events count (addressee c.table call.op) (message.Call called) (fit 0 sent (omega arith)) ∙ ap (λ a. post a count (message.Call called)) to.1)) in
+    posts_with w l n (addressee c.table call.op) (message.Call called) to.1 (fit 0 sent (omega arith)) in
     let same : record v1 { posts = v1.posts ++ post (Node n) count (message.Call called) ∷ [] } ≡ view_of config after h' = λ i. record v {
       posts = posts i;
       entries = w.entries ++ entry.Sent (sym x.lane i) (c.seq + 1) ∷ [];
@@ -247,7 +255,7 @@ begins config w l h call cluster s left none good fit =
         heard = put_all (λ m y. Heard config h'.call h'.phase m y) w.clients l new
             (heard_next config h'.call h.phase h'.phase h.call l c (Some (first_try call)) (λ e. absurd (cc))
             (λ y e. let is = same_Some (first_try call) y e in let asked = put_same h.phase l (Asked n) in
-            ((λ z. absurd (cc)), ap (λ (t : Current). t.call) (sym is) ∙ ap plain (sym (put_same h.call l called)), ap (λ (t : Current). t.attempt) (sym is), ap (λ (t : Current). t.listing) (sym is)))
+            ((λ z. absurd (cc)), ap (λ (t : Current). t.call) (sym is) ∙ ap plain (sym (put_same h.call l called)), ap (λ (t : Current). t.attempt) (sym is) ∙ ap (λ (z : CallRec). z.id.attempt) (sym (put_same h.call l called)), ap (λ (t : Current). t.listing) (sym is)))
             x)
             (λ m ne. heard_other config h.call h'.call h.phase h'.phase m (w.clients m) (put_other h.phase l (Asked n) m ne) (put_other h.call l called m ne) (s.heard m));
         placed = s.placed;

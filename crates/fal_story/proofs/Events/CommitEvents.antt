@@ -17,7 +17,6 @@ use Rattle.fal_node.specs.State.{is_of}
 use Rattle.fal_wire.specs.Letters.{letter}
 use Rattle.fal_wire.specs.declared.message.Message.TheVariants as message
 use Rattle.fal_story.proofs.Events.Besides.{beside_still}
-use Rattle.fal_story.proofs.Events.FirstTable.{node_table}
 use Rattle.fal_story.proofs.Events.Freed.{beside_freed}
 use Rattle.fal_story.proofs.Events.GotEvent.{AllFit, stays}
 use Rattle.fal_story.proofs.Events.InStep.{InStep, view_begun, view_in, Ends, begins, ends}
@@ -27,6 +26,7 @@ use Rattle.fal_story.proofs.Families.Operation.{ToldCounted, ToldDone, IsCounted
 use Rattle.fal_story.proofs.Good.{Good}
 use Rattle.fal_story.proofs.Lists.Grown.{put_back, put_same}
 use Rattle.fal_story.proofs.Steps.Arrives.{MayCount, count_comes, commit_comes}
+use Rattle.fal_story.proofs.Steps.Comes.{settled_table}
 use Rattle.fal_story.proofs.Steps.Counting.{counts_rows}
 use Rattle.fal_story.proofs.Steps.Posted.{IsFine}
 use Rattle.fal_story.proofs.Steps.Reopened.{reopened_good}
@@ -111,12 +111,12 @@ commits config w n h e p operation updates there other s fit at is =
     let v1 : View = record v { rows = put v.rows n (laid (v.op.due n) (v.rows n)); op = record v.op { due = put v.op.due n []; shut = put v.op.shut n None } } in
     let later : Ghost = record h { due = put h.due n [] } in
     let k = opened w n operation updates in
-    let due_is : h.due n ≡ owned node.table node.number updates = comes.2 ∙ (λ i. owned (sym (node_table config w h s n) i) (sym placed.number i) updates) in
+    let due_is : h.due n ≡ owned node.table node.number updates = comes.2 ∙ (λ i. owned (sym (settled_table config v n comes.1.1 tt there s.good) i) (sym placed.number i) updates) in
     let closed : None ≡ unless_of operation node.locks.shut =
     sym (ap (unless_of operation) shut.1 ∙ ap (λ b. cond b None (shut_by operation shut.0)) (eq-eqb operation operation refl)) in
     let same : v1 ≡ view_in config w n k later = λ i. record (view_begun config w n h other i) {
       rows = put v.rows n (laid (due_is i) node.rows);
-      op = operating (put (shut_of w.nodes) n (closed i)) (sym (put_back (last_of w.nodes) n) i) w.coord later;
+      op = operating config (put (shut_of w.nodes) n (closed i)) (sym (put_back (last_of w.nodes) n) i) w.coord later;
     } in
     let start = begins config w n h other s in
     let step : InStep config w n k later node.waiting.calls (calls_in node.batches) = record {
@@ -126,7 +126,7 @@ commits config w n h e p operation updates there other s fit at is =
       items = start.items;
       others_items = start.others_items;
       heard = start.heard;
-      placed = record { number = placed.number; limit = placed.limit; table = placed.table; blocked = placed.blocked; tidy = placed.tidy };
+      placed = record { number = placed.number; limit = placed.limit; blocked = placed.blocked; tidy = placed.tidy };
       others_placed = start.others_placed;
     } in
     let fine : IsFine config v1 (Node 255) (length w.commits + 0) (message.Done operation n) = record {

@@ -27,8 +27,10 @@ use Rattle.fal_wire.specs.declared.message.Message.TheVariants as message
 use Rattle.fal_wire.specs.Messages.{Fits, reading}
 use Rattle.fal_story.proofs.Events.GotEvent.{AllFit, stays, got_event}
 use Rattle.fal_story.proofs.Events.Besides.{beside_still}
+use Rattle.fal_story.proofs.Events.BlockEvents.{block_event}
 use Rattle.fal_story.proofs.Events.CommitEvents.{count_event, commit_event}
 use Rattle.fal_story.proofs.Events.Freed.{IsFreed, freed_moves, beside_freed, locks_more}
+use Rattle.fal_story.proofs.Events.InstallEvent.{install_event}
 use Rattle.fal_story.proofs.Events.LockEvents.{lock_event}
 use Rattle.fal_story.proofs.Events.HeldCalls.{others_held, heard_moves, held_comes}
 use Rattle.fal_story.proofs.Events.InStep.{at_seat, view_begun, Ends, sent_more, view_in, begins, ends}
@@ -60,9 +62,9 @@ abbrev pub with_waiter : NodeState → CallRec → NodeState
 with_waiter node c = record node { waiting = with_call node.waiting c }
 
 takes : (config : Config) (w : World) (n : ℕ) (h : Ghost) (e p : ℕ) (c : CallRec) → n ≢ 255 → Shows config w h → AllFit [] → IsPosted (posts_of w.envelopes) e (Node n) p (message.Call c) → is_new (w.nodes n).waiting c ≡ true
-    → IsTidy (with_call (w.nodes n).waiting c) → Ends config w n (begun (with_waiter (w.nodes n) c))
+    → is_some (row_names c.op) ≡ true → IsTidy (with_call (w.nodes n).waiting c) → Ends config w n (begun (with_waiter (w.nodes n) c))
 unfolding with_call
-takes config w n h e p c other s fit at newer tidy =
+takes config w n h e p c other s fit at newer rows tidy =
     let node = w.nodes n in
     let l = c.id.client in
     let asked = asked_by config w n h e p c other s at newer in
@@ -84,12 +86,12 @@ takes config w n h e p c other s fit at newer tidy =
           (beside_freed config w.nodes w.coord h later n k.node other s.good.operation.running freed (λ i. refl) (λ i. refl) (λ m _. refl) (s.beside.queues n) refl refl refl s.beside)
           (record {
             good = subst (Good config) same good;
-            here = held_comes h.call h.phase n node.waiting.calls waiter (calls_in node.batches) other (λ y. subst (IsHeld n) asked.1 y) asked.0 (s.held n);
+            here = held_comes h.call h.phase n node.waiting.calls waiter (calls_in node.batches) other (λ y. subst (IsHeld n) asked.1 y) asked.0 rows (s.held n);
             others = others_held w n h.call h.phase later.phase moves (λ m _. s.held m);
             items = sent_more (posts_of w.envelopes) [] n node.items (s.items n);
             others_items = λ m _. s.items m;
             heard = heard_moves config w n h.call h.phase later.phase moves s.heard;
-            placed = record { number = placed.number; limit = placed.limit; table = placed.table; blocked = placed.blocked; tidy = tidy };
+            placed = record { number = placed.number; limit = placed.limit; blocked = placed.blocked; tidy = tidy };
             others_placed = λ m _. s.placed m;
           }),
     )
@@ -99,12 +101,15 @@ unfolding admitted
 call_event config w n h e p c other s fit at =
     let node = w.nodes n in
     let tidy = tidy_admit node.waiting c (s.placed n).tidy in
-    let admits : Ends config w n (begun (admitted node c)) =
-    elim (is_new node.waiting c) as (λ b. is_new node.waiting c ≡ b → IsTidy (cond b (with_call node.waiting c) node.waiting) → Ends config w n (begun (record node { waiting = cond b (with_call node.waiting c) node.waiting }))) [
-      | true ↦ λ newer t. takes config w n h e p c other s fit at newer t
+    let admits : is_some (row_names c.op) ≡ true → Ends config w n (begun (admitted node c)) =
+    λ rows. elim (is_new node.waiting c) as (λ b. is_new node.waiting c ≡ b → IsTidy (cond b (with_call node.waiting c) node.waiting) → Ends config w n (begun (record node { waiting = cond b (with_call node.waiting c) node.waiting }))) [
+      | true ↦ λ newer t. takes config w n h e p c other s fit at newer rows t
       | false ↦ λ _ _. stays config w n h other s fit
     ] refl tidy in
-    elim (is_some (row_names c.op)) as (λ b. Ends config w n (begun (cond b (admitted node c) node))) [ true ↦ admits | false ↦ stays config w n h other s fit ]
+    elim (is_some (row_names c.op)) as (λ b. is_some (row_names c.op) ≡ b → Ends config w n (begun (cond b (admitted node c) node))) [
+      | true ↦ λ rows. admits rows
+      | false ↦ λ _. stays config w n h other s fit
+    ] refl
 
 -- ---- a question of a fetch, which becomes an item
 
@@ -125,7 +130,7 @@ ask_event config w n h e p asker number key other s fit at =
         items = each_join _ node.items (item ∷ []) start.items ((e, (p, slice_get_front (posts_of w.envelopes) [] e _ at)), tt);
         others_items = start.others_items;
         heard = start.heard;
-        placed = record { number = placed.number; limit = placed.limit; table = placed.table; blocked = placed.blocked; tidy = placed.tidy };
+        placed = record { number = placed.number; limit = placed.limit; blocked = placed.blocked; tidy = placed.tidy };
         others_placed = start.others_placed;
       }),
     )
@@ -151,9 +156,9 @@ message_event config w n h e p (message.Count op dir) there other s at fit = cou
 message_event config w n h e p (message.Counted op from number) there other s at fit = stays config w n h other s fit
 message_event config w n h e p (message.Commit op updates) there other s at fit = commit_event config w n h e p op updates there other s fit at
 message_event config w n h e p (message.Done op from) there other s at fit = stays config w n h other s fit
-message_event config w n h e p (message.Block op name) there other s at fit = stays config w n h other s fit
+message_event config w n h e p (message.Block op name) there other s at fit = block_event config w n h e p op name other s fit at
 message_event config w n h e p (message.Blocked op from rows) there other s at fit = stays config w n h other s fit
-message_event config w n h e p (message.Install op version rule rows) there other s at fit = stays config w n h other s fit
+message_event config w n h e p (message.Install op version rule rows) there other s at fit = install_event config w n h e p op version rule rows other s fit at
 message_event config w n h e p (message.Installed op from) there other s at fit = stays config w n h other s fit
 
 -- by what the bytes are read as

@@ -77,10 +77,11 @@ served_letters node m = (service_of node m).work.sent
 abbrev pub only_sends : NodeState → Item → Work
 only_sends node item = record { node = without_item node item.number; sent = served_letters node item.message; notes = [] }
 
--- each item but a Lock is served by records alone
+-- each item but a Lock and a Block is served by records alone
 service_is : (node : NodeState) (m : Message) → is_lock m ≡ false → (service_of node m).work ≡ record { node = node; sent = served_letters node m; notes = [] }
 service_is node (message.FetchAsk asker number key) off = refl
 service_is node (message.Lock operation keys) off = absurd (cc)
+service_is node (message.Block operation name) off = absurd (cc)
 service_is node other off = refl
 
 pub served_is : (node : NodeState) (item : Item) → is_lock item.message ≡ false → served node item ≡ only_sends node item

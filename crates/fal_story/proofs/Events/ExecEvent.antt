@@ -118,7 +118,7 @@ batch_event config w n number h batch few below other s is fresh fit =
         items = start.items;
         others_items = start.others_items;
         heard = start.heard;
-        placed = record { number = placed.number; limit = placed.limit; table = placed.table; blocked = placed.blocked; tidy = placed.tidy };
+        placed = record { number = placed.number; limit = placed.limit; blocked = placed.blocked; tidy = placed.tidy };
         others_placed = start.others_placed;
       };
       counted = refl;

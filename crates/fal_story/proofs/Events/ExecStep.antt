@@ -245,7 +245,7 @@ leaves config w n k h y xs x ys reply ch s at good counted =
       items = s.step.items;
       others_items = s.step.others_items;
       heard = heard_moves config w n h.call h.phase later.phase moves s.step.heard;
-      placed = record { number = placed.number; limit = placed.limit; table = placed.table; blocked = placed.blocked; tidy = placed.tidy };
+      placed = record { number = placed.number; limit = placed.limit; blocked = placed.blocked; tidy = placed.tidy };
       others_placed = s.step.others_placed;
     } in (
       later,
@@ -284,8 +284,8 @@ hands_on config w n k h y xs x ys few s at =
       others = λ m apart. held_called h.call moved m (w.nodes m).waiting.calls (calls_in (w.nodes m).batches) l c (free m) (others_held w n h.call h.phase moved moves s.step.others m apart);
       items = s.step.items;
       others_items = s.step.others_items;
-      heard = λ a. heard_called config h.call moved l c refl a (w.clients a) (heard_moves config w n h.call h.phase moved moves s.step.heard a);
-      placed = record { number = placed.number; limit = placed.limit; table = placed.table; blocked = placed.blocked; tidy = placed.tidy };
+      heard = λ a. heard_called config h.call moved l c refl refl a (w.clients a) (heard_moves config w n h.call h.phase moved moves s.step.heard a);
+      placed = record { number = placed.number; limit = placed.limit; blocked = placed.blocked; tidy = placed.tidy };
       others_placed = s.step.others_placed;
     } in
     let live : passed_on x.call ≡ put h.call l c l = ap passed_on at.1 ∙ sym (put_same h.call l c) in (

@@ -16,7 +16,7 @@ use Rattle.fal_story.proofs.Events.Doing.{work_of}
 use Rattle.fal_story.proofs.Events.HeldCalls.{MovesAt, one_node}
 use Rattle.fal_story.proofs.Events.InStep.{at_seat}
 use Rattle.fal_story.proofs.Events.Sends.{same_item}
-use Rattle.fal_story.proofs.Events.Shows.{Ghost, Beside, is_lock, listed_of, locks_in}
+use Rattle.fal_story.proofs.Events.Shows.{Ghost, Beside, is_lock, listed_of, locks_in, before_in}
 use Rattle.fal_story.proofs.Families.Operation.{IsOf}
 use Rattle.fal_story.proofs.Lists.Grown.{put_back}
 use Rattle.fal_story.proofs.Lists.Members.{IsIn, in_map, in_filter, find_in, filter_join}
@@ -50,7 +50,7 @@ freed_there n call call' phase later l other same freed = ⊎_elim
     freed
 
 -- a node changes that keeps its batches and holders, and calls there are freed
-pub beside_freed : (config : Config) (nodes : ℕ → NodeState) (coord : CoordState) (h later : Ghost) (n : ℕ) (y : NodeState) → n ≢ 255 → ((l : ℕ) → IsOf l (work_of h.before coord.stage) → h.phase l ≡ Runs)
+pub beside_freed : (config : Config) (nodes : ℕ → NodeState) (coord : CoordState) (h later : Ghost) (n : ℕ) (y : NodeState) → n ≢ 255 → ((l : ℕ) → IsOf l (work_of (before_in config h) coord.stage) → h.phase l ≡ Runs)
     → ((l : ℕ) → IsFreed n (h.phase l) (later.phase l)) → ((l : ℕ) → later.call l ≡ h.call l) → ((l : ℕ) → h.crossed l ≡ later.crossed l) → ((m : ℕ) → m ≢ n → later.queued m ≡ h.queued m)
     → locks_in y.items ≡ listed_of (later.queued n) → y.batches ≡ (nodes n).batches → y.locks.holders ≡ (nodes n).locks.holders → y.batches_numbered ≡ (nodes n).batches_numbered
     → Beside config nodes coord h → Beside config (put nodes n y) coord later

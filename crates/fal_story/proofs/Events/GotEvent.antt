@@ -186,7 +186,7 @@ learns config w n h e p dentry f there other s fit a at =
         items = sent_more (posts_of w.envelopes) [] n node.items (s.items n);
         others_items = λ m _. s.items m;
         heard = heard_moves config w n h.call h.phase later.phase moves s.heard;
-        placed = record { number = placed.number; limit = placed.limit; table = placed.table; blocked = placed.blocked; tidy = tidy_settle list f.number placed.tidy };
+        placed = record { number = placed.number; limit = placed.limit; blocked = placed.blocked; tidy = tidy_settle list f.number placed.tidy };
         others_placed = λ m _. s.placed m;
       }),
     )
@@ -287,7 +287,7 @@ leaves config w n h p errno f there other s a past stops fit =
         items = sent_more (posts_of w.envelopes) (letter_posts (length w.commits) k.sent) n node.items (s.items n);
         others_items = λ m _. s.items m;
         heard = heard_moves config w n h.call h.phase later.phase moves s.heard;
-        placed = record { number = placed.number; limit = placed.limit; table = placed.table; blocked = placed.blocked; tidy = tidy_left list f placed.tidy a.pending };
+        placed = record { number = placed.number; limit = placed.limit; blocked = placed.blocked; tidy = tidy_left list f placed.tidy a.pending };
         others_placed = λ m _. s.placed m;
       }),
     )

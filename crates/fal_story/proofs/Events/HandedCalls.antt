@@ -24,13 +24,16 @@ held_called call phase n ws ps l c free h = record {
     stays : (a : ℕ) → IsHeld n (phase a) → call a ≡ put call l c a
     stays a held = sym (put_other call l c a (λ e. free (subst (IsHeld n) (ap phase e) held)))
 
--- a client knows what it did, where the other record is of the same call
-pub heard_called : (config : Config) (call : ℕ → CallRec) (phase : ℕ → Phase) (l : ℕ) (c : CallRec) → plain c ≡ plain (call l) → (a : ℕ) (client : ClientState) → Heard config call phase a client → Heard config (put call l c) phase a client
-heard_called config call phase l c same a client h = record {
+-- a client knows what it did, where the other record is of the same call and attempt
+pub heard_called : (config : Config) (call : ℕ → CallRec) (phase : ℕ → Phase) (l : ℕ) (c : CallRec) → plain c ≡ plain (call l) → c.id.attempt ≡ (call l).id.attempt → (a : ℕ) (client : ClientState) → Heard config call phase a client
+    → Heard config (put call l c) phase a client
+heard_called config call phase l c same attempt a client h = record {
   lane = h.lane;
   nodes = h.nodes;
-  table = h.table;
   left = h.left;
   none = h.none;
-  some = λ current e. let s = h.some current e in (s.0, s.1 ∙ sym (put_all (λ b d. plain d ≡ plain (call b)) call l c same (λ b _. refl) a), s.2, s.3);
+  some = λ current e.
+      let s = h.some current e in
+      let same_one = put_all (λ b d. (plain d ≡ plain (call b)) × (d.id.attempt ≡ (call b).id.attempt)) call l c (same, attempt) (λ b _. (refl, refl)) a in
+      (s.0, s.1 ∙ sym same_one.0, s.2 ∙ sym same_one.1, s.3);
 }

@@ -1,9 +1,10 @@
 -- What nodes keep, and what clients know, while calls move.
-use Rattle.std.proofs.Common.{◌≡◌, ◌≢◌, ◌⊎◌, inl, inr, ⊎_elim, ℕ, ◌==◌, Bool, true, false, not, ◌&&◌, cond, List, [], ◌∷◌, ◌++◌, map, filter, None, refl, sym, ap, subst, ◌∙◌, append_assoc, eq-eqb}
+use Rattle.std.proofs.Common.{◌≡◌, ◌≢◌, ◌⊎◌, inl, inr, ⊎_elim, ℕ, ◌==◌, Bool, true, false, not, ◌&&◌, cond, List, [], ◌∷◌, ◌++◌, map, filter, None, is_some, refl, sym, ap, subst, ◌∙◌, append_assoc, eq-eqb}
 use mathlib.Core.Path.{fun_ext}
-use Rattle.std.specs.Prelude.{if◌then◌else◌}
+use Rattle.std.specs.Prelude.{if◌then◌else◌, IsTrue}
 use Rattle.fal_base.specs.declared.call.CallRec.{CallRec}
 use Rattle.fal_base.specs.declared.call.Config.{Config}
+use Rattle.fal_exec.specs.RowCall.{row_names}
 use Rattle.fal_node.specs.declared.batch.Batch.{Batch}
 use Rattle.fal_run.specs.declared.call.BatchCall.{BatchCall}
 use Rattle.fal_node.specs.Exec.{as_executed}
@@ -42,8 +43,8 @@ one_node m n (Tells answer) a b = absurd a
 -- the lanes that are kept stay
 pub held_frame : (call : ℕ → CallRec) (phase later : ℕ → Phase) (n : ℕ) (ws : List WaitingCall) (ps : List BatchCall) → ((l : ℕ) → IsHeld n (phase l) → later l ≡ phase l) → Held call phase n ws ps → Held call later n ws ps
 held_frame call phase later n ws ps same h = record {
-  waiters = each_weaker (WaitsAt call phase n) (WaitsAt call later n) ws (λ w a. (same (lane_of w) (subst (IsHeld n) (sym a.0) refl) ∙ a.0, a.1, a.2)) h.waiters;
-  planned = each_weaker (PlannedAt call phase n) (PlannedAt call later n) ps (λ x a. (same (planned_lane x) (subst (IsHeld n) (sym a.0) refl) ∙ a.0, a.1)) h.planned;
+  waiters = each_weaker (WaitsAt call phase n) (WaitsAt call later n) ws (λ w a. (same (lane_of w) (subst (IsHeld n) (sym a.0) refl) ∙ a.0, a.1, a.2, a.3)) h.waiters;
+  planned = each_weaker (PlannedAt call phase n) (PlannedAt call later n) ps (λ x a. (same (planned_lane x) (subst (IsHeld n) (sym a.0) refl) ∙ a.0, a.1, a.2)) h.planned;
   waiters_apart = h.waiters_apart;
   planned_apart = h.planned_apart;
 }
@@ -63,7 +64,6 @@ pub heard_moves : (config : Config) (w : World) (n : ℕ) (call : ℕ → CallRe
 heard_moves config w n call phase later moves h l = record {
   lane = (h l).lane;
   nodes = (h l).nodes;
-  table = (h l).table;
   left = (h l).left;
   none = λ e. let idle = (h l).none e in ⊎_elim (λ same. same ∙ idle) (λ y. absurd (for_not_idle n (phase l) y.0 idle)) (moves l);
   some = λ current e. let s = (h l).some current e in (λ idle. ⊎_elim (λ same. s.0 (sym same ∙ idle)) (λ y. y.1 idle) (moves l), s.1, s.2, s.3);
@@ -74,18 +74,18 @@ heard_moves config w n call phase later moves h l = record {
 pub put_moves : (n l : ℕ) (phase : ℕ → Phase) (q : Phase) → IsFor n (phase l) → q ≢ Idle → MovesAt n phase (put phase l q)
 put_moves n l phase q at some m = put_all (λ i p. (p ≡ phase i) ⊎ (IsFor n (phase i) × (p ≢ Idle))) phase l q (inr (at, some)) (λ i _. inl refl) m
 
-pub held_comes : (call : ℕ → CallRec) (phase : ℕ → Phase) (n : ℕ) (ws : List WaitingCall) (w : WaitingCall) (ps : List BatchCall) → n ≢ 255 → (IsHeld n (phase (lane_of w)) → ⊥) → w.call ≡ call (lane_of w) → Held call phase n ws ps
+pub held_comes : (call : ℕ → CallRec) (phase : ℕ → Phase) (n : ℕ) (ws : List WaitingCall) (w : WaitingCall) (ps : List BatchCall) → n ≢ 255 → (IsHeld n (phase (lane_of w)) → ⊥) → w.call ≡ call (lane_of w) → IsTrue (is_some (row_names w.call.op)) → Held call phase n ws ps
     → Held call (put phase (lane_of w) (Waits n w.fetch)) n (ws ++ w ∷ []) ps
-held_comes call phase n ws w ps other free same h =
+held_comes call phase n ws w ps other free same rows h =
     let l = lane_of w in
     let q = Waits n w.fetch in
     let later = put phase l q in
     let others = each_weaker (WaitsAt call phase n) (λ y. lane_of y ≢ l) ws (λ y a e. free (subst (IsHeld n) (sym a.0 ∙ ap phase e) refl)) h.waiters in
-    let w_at : WaitsAt call later n w = (put_same phase l q, same, other) in
+    let w_at : WaitsAt call later n w = (put_same phase l q, same, other, rows) in
     record {
       waiters = each_join (WaitsAt call later n) ws (w ∷ [])
-          (each_both (WaitsAt call phase n) (λ y. lane_of y ≢ l) (WaitsAt call later n) ws (λ y a ne. (put_other phase l q (lane_of y) ne ∙ a.0, a.1, a.2)) h.waiters others) (w_at, tt);
-      planned = each_weaker (PlannedAt call phase n) (PlannedAt call later n) ps (λ y a. (put_other phase l q (planned_lane y) (λ e. free (subst (IsHeld n) (sym a.0 ∙ ap phase e) refl)) ∙ a.0, a.1)) h.planned;
+          (each_both (WaitsAt call phase n) (λ y. lane_of y ≢ l) (WaitsAt call later n) ws (λ y a ne. (put_other phase l q (lane_of y) ne ∙ a.0, a.1, a.2, a.3)) h.waiters others) (w_at, tt);
+      planned = each_weaker (PlannedAt call phase n) (PlannedAt call later n) ps (λ y a. (put_other phase l q (planned_lane y) (λ e. free (subst (IsHeld n) (sym a.0 ∙ ap phase e) refl)) ∙ a.0, a.1, a.2)) h.planned;
       waiters_apart = apart_push lane_of ws w others h.waiters_apart;
       planned_apart = h.planned_apart;
     }
@@ -119,21 +119,21 @@ lane_off number w = elim (waits_on number w.fetch) as (λ b. lane_of (cond b (re
 freed_at : (call : ℕ → CallRec) (phase : ℕ → Phase) (n number : ℕ) (w : WaitingCall) → WaitsAt call phase n w → WaitsAt call (off_all n number (Waits n None) phase) n (off_fetch number w)
 freed_at call phase n number w a =
     elim (waits_on number w.fetch) as (λ b. is_on n number (phase (lane_of w)) ≡ b → WaitsAt call (off_all n number (Waits n None) phase) n (cond b (record w { fetch = None }) w)) [
-      | true ↦ λ on. (ap (λ b. cond b (Waits n None) (phase (lane_of w))) on, a.1, a.2)
-      | false ↦ λ on. (ap (λ b. cond b (Waits n None) (phase (lane_of w))) on ∙ a.0, a.1, a.2)
+      | true ↦ λ on. (ap (λ b. cond b (Waits n None) (phase (lane_of w))) on, a.1, a.2, a.3)
+      | false ↦ λ on. (ap (λ b. cond b (Waits n None) (phase (lane_of w))) on ∙ a.0, a.1, a.2, a.3)
     ] (on_is call phase n number w a)
 
 left_at : (call : ℕ → CallRec) (phase : ℕ → Phase) (n number : ℕ) (q : Phase) (w : WaitingCall) → WaitsAt call phase n w → not (waits_on number w.fetch) ≡ true → WaitsAt call (off_all n number q phase) n w
 left_at call phase n number q w a off =
     let no_more : waits_on number w.fetch ≡ false = unnot (waits_on number w.fetch) off in
-    (ap (λ b. cond b q (phase (lane_of w))) (on_is call phase n number w a ∙ no_more) ∙ a.0, a.1, a.2)
+    (ap (λ b. cond b q (phase (lane_of w))) (on_is call phase n number w a ∙ no_more) ∙ a.0, a.1, a.2, a.3)
   where
     unnot : (b : Bool) → not b ≡ true → b ≡ false
     unnot true e = absurd (cc)
     unnot false e = refl
 
 planned_off : (call : ℕ → CallRec) (phase : ℕ → Phase) (n number : ℕ) (q : Phase) (x : BatchCall) → PlannedAt call phase n x → PlannedAt call (off_all n number q phase) n x
-planned_off call phase n number q x a = (ap (λ b. cond b q (phase (planned_lane x))) (ap (is_on n number) a.0) ∙ a.0, a.1)
+planned_off call phase n number q x a = (ap (λ b. cond b q (phase (planned_lane x))) (ap (is_on n number) a.0) ∙ a.0, a.1, a.2)
 
 pub held_freed : (call : ℕ → CallRec) (phase : ℕ → Phase) (n number : ℕ) (ws : List WaitingCall) (ps : List BatchCall) → Held call phase n ws ps
     → Held call (off_all n number (Waits n None) phase) n (map (λ w. off_fetch number w) ws) ps
@@ -162,8 +162,8 @@ held_done call phase n ws xs x ys q h =
     let later = put phase l q in
     let me = (each_middle (PlannedAt call phase n) xs x ys h.planned).0 in
     record {
-      waiters = each_weaker (WaitsAt call phase n) (WaitsAt call later n) ws (λ y a. (put_other phase l q (lane_of y) (λ e. let z = ap phase e in cc) ∙ a.0, a.1, a.2)) h.waiters;
-      planned = each_both (PlannedAt call phase n) (λ y. planned_lane y ≢ l) (PlannedAt call later n) (xs ++ ys) (λ y a ne. (put_other phase l q (planned_lane y) ne ∙ a.0, a.1))
+      waiters = each_weaker (WaitsAt call phase n) (WaitsAt call later n) ws (λ y a. (put_other phase l q (lane_of y) (λ e. let z = ap phase e in cc) ∙ a.0, a.1, a.2, a.3)) h.waiters;
+      planned = each_both (PlannedAt call phase n) (λ y. planned_lane y ≢ l) (PlannedAt call later n) (xs ++ ys) (λ y a ne. (put_other phase l q (planned_lane y) ne ∙ a.0, a.1, a.2))
           (each_without (PlannedAt call phase n) xs x ys h.planned) (apart_others planned_lane xs x ys h.planned_apart);
       waiters_apart = h.waiters_apart;
       planned_apart = apart_without planned_lane xs x ys h.planned_apart;

@@ -30,7 +30,7 @@ view_at config w k h = record {
   call = h.call;
   since = h.since;
   phase = h.phase;
-  op = operating (shut_of w.nodes) (last_of w.nodes) k.coord h;
+  op = operating config (shut_of w.nodes) (last_of w.nodes) k.coord h;
   map = mapped (tables_of w.nodes) (barred_in w.nodes) w.clients k.coord h;
 }
 

@@ -51,7 +51,7 @@ view_in config w n k h = record {
   call = h.call;
   since = h.since;
   phase = h.phase;
-  op = operating (put (shut_of w.nodes) n k.node.locks.shut) (put (last_of w.nodes) n k.node.last_operation) w.coord h;
+  op = operating config (put (shut_of w.nodes) n k.node.locks.shut) (put (last_of w.nodes) n k.node.last_operation) w.coord h;
   map = mapped (put (tables_of w.nodes) n k.node.table) (put (barred_in w.nodes) n (barred_of k.node.blocked)) w.clients w.coord h;
 }
 
@@ -99,7 +99,7 @@ view_begun config w n h other = λ i. record {
   call = h.call;
   since = h.since;
   phase = h.phase;
-  op = operating (sym (put_back (shut_of w.nodes) n) i) (sym (put_back (last_of w.nodes) n) i) w.coord h;
+  op = operating config (sym (put_back (shut_of w.nodes) n) i) (sym (put_back (last_of w.nodes) n) i) w.coord h;
   map = mapped (sym (put_back (tables_of w.nodes) n) i) (sym (put_back (barred_in w.nodes) n) i) w.clients w.coord h;
 }
 
@@ -166,7 +166,7 @@ ends config w n k h other fit beside s =
       call = h.call;
       since = h.since;
       phase = h.phase;
-      op = operating (sym (at_put (λ x. x.locks.shut) w.nodes n k.node) i) (sym (at_put (λ x. x.last_operation) w.nodes n k.node) i) w.coord h;
+      op = operating config (sym (at_put (λ x. x.locks.shut) w.nodes n k.node) i) (sym (at_put (λ x. x.last_operation) w.nodes n k.node) i) w.coord h;
       map = mapped (sym (at_put (λ x. x.table) w.nodes n k.node) i) (sym (at_put (λ x. barred_of x.blocked) w.nodes n k.node) i) w.clients w.coord h;
     }
 

@@ -3,6 +3,7 @@ use Rattle.std.proofs.Common.{◌≡◌, ℕ, ◌<◌, Some}
 use Rattle.std.specs.Prelude.{IsTrue}
 use Rattle.std.specs.List.{All}
 use Rattle.fal_base.specs.declared.call.Config.{Config}
+use Rattle.fal_base.specs.Tree.{IsInOrder}
 use Rattle.fal_client.specs.declared.event.ClientEvent.{ClientEvent}
 use Rattle.fal_client.specs.declared.event.ClientEvent.TheVariants as client
 use Rattle.fal_client.specs.State.{Work as ClientWork}
@@ -21,7 +22,7 @@ use Rattle.fal_story.proofs.Coordinator.StartEvent.{start_event}
 use Rattle.fal_story.proofs.Events.ClientEvent.{EndsClient, send_event}
 use Rattle.fal_story.proofs.Events.DeliverEvent.{deliver_event}
 use Rattle.fal_story.proofs.Events.ExecEvent.{exec_event}
-use Rattle.fal_story.proofs.Events.GatherEvent.{gather_event}
+use Rattle.fal_story.proofs.Gathers.GatherEvent.{gather_event}
 use Rattle.fal_story.proofs.Events.GetEvent.{get_event}
 use Rattle.fal_story.proofs.Events.InCoord.{EndsCoord}
 use Rattle.fal_story.proofs.Events.InStep.{Ends}
@@ -31,13 +32,13 @@ use Rattle.fal_story.proofs.Ranges.Bounds.{Comes, ComesToClient, ComesToCoord}
 use Rattle.fal_story.specs.Clusters.{IsCluster, is_lane}
 use Rattle.fal_story.specs.World.{World}
 
-pub node_event : (config : Config) (w : World) (n : ℕ) (h : Ghost) (e : NodeEvent) (work : Work) → IsCluster config → n < config.nodes → Shows config w h → Comes w e
+pub node_event : (config : Config) (w : World) (n : ℕ) (h : Ghost) (e : NodeEvent) (work : Work) → IsCluster config → n < config.nodes → Shows config w h → IsInOrder (w.nodes n).rows → Comes w e
     → node_step (w.nodes n) e ≡ Some work → All (λ letter. Fits letter.message) work.sent → Ends config w n work
-node_event config w n h (node.Deliver x) work cluster there shows comes is fit = deliver_event config w n comes.0 x h work cluster there shows comes.1 is fit
-node_event config w n h node.Gather work cluster there shows comes is fit = gather_event config w n h work cluster there shows is fit
-node_event config w n h (node.Exec number) work cluster there shows comes is fit = exec_event config w n number h work cluster there shows is fit
-node_event config w n h (node.Release number) work cluster there shows comes is fit = release_event config w n number h work cluster there shows is fit
-node_event config w n h (node.Serve number) work cluster there shows comes is fit = serve_event config w n number h work cluster there shows is fit
+node_event config w n h (node.Deliver x) work cluster there shows sorted comes is fit = deliver_event config w n comes.0 x h work cluster there shows comes.1 is fit
+node_event config w n h node.Gather work cluster there shows sorted comes is fit = gather_event config w n h work cluster there shows is fit
+node_event config w n h (node.Exec number) work cluster there shows sorted comes is fit = exec_event config w n number h work cluster there shows is fit
+node_event config w n h (node.Release number) work cluster there shows sorted comes is fit = release_event config w n number h work cluster there shows is fit
+node_event config w n h (node.Serve number) work cluster there shows sorted comes is fit = serve_event config w n number h work cluster there shows sorted is fit
 
 pub client_event : (config : Config) (w : World) (l : ℕ) (h : Ghost) (e : ClientEvent) (m : ClientWork) → IsCluster config → IsTrue (is_lane config l) → Shows config w h → ComesToClient w e
     → client_step (w.clients l) e ≡ Some m → All (λ s. Fits s.message) m.sent → EndsClient config w l m

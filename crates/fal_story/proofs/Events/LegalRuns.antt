@@ -59,7 +59,7 @@ node_kept config w u n e (Some work) cluster few k comes is at =
       | true ↦ λ there z.
           let below : n < config.nodes = grind (arith, nat_tests) in
           let r = node_in_range config w n k.ghost e work cluster below few k.shows k.ranged comes (sym is) in
-          let s = node_event config w n k.ghost e work cluster below k.shows comes (sym is) (r.0.records) in
+          let s = node_event config w n k.ghost e work cluster below k.shows (k.ranged.nodes n).sorted comes (sym is) (r.0.records) in
           subst (IsKept config) (same_Some _ u z) (record { ghost = s.0; shows = s.1; ranged = r.1 })
       | false ↦ λ there z. absurd (cc)
     ] refl at

@@ -16,7 +16,7 @@ use Rattle.fal_wire.specs.declared.message.Message.TheVariants as message
 use Rattle.fal_story.proofs.Events.Freed.{beside_freed, locks_join}
 use Rattle.fal_story.proofs.Events.GotEvent.{AllFit, stays}
 use Rattle.fal_story.proofs.Events.InStep.{view_begun, view_in, Ends, begins, ends}
-use Rattle.fal_story.proofs.Events.Shows.{Ghost, Shows, operating, shut_of, last_of, listed_of, view_of, posts_of}
+use Rattle.fal_story.proofs.Events.Shows.{Ghost, Shows, operating, shut_of, last_of, is_lock, locks_in, listed_of, view_of, posts_of}
 use Rattle.fal_story.proofs.Families.Operation.{LocksKeys, Stands}
 use Rattle.fal_story.proofs.Good.{Good}
 use Rattle.fal_story.proofs.Lists.Each.{each_join}
@@ -40,29 +40,28 @@ away_none table operation n (Blocks lane name rule missing came) keys shut queue
 away_none table operation n (Lands name rule old missing) keys shut queued last due newer locks stands = absurd locks
 away_none table operation n (EndsAt locked updates missing) keys shut queued last due newer locks stands = ⊎_elim (λ x. x.2.1) (λ x. x.2) stands
 
-queues : (config : Config) (w : World) (n : ℕ) (h : Ghost) (e p operation : ℕ) (keys : List Key) → n ≢ 255 → Shows config w h → AllFit [] → IsPosted (posts_of w.envelopes) e (Node n) p (message.Lock operation keys)
-    → (w.nodes n).last_operation < operation → Ends config w n (begun (with_operation (w.nodes n) operation (message.Lock operation keys)))
+-- the record of a newer operation comes to a node that has no other to serve, and is its next item
+pub operation_queues : (config : Config) (w : World) (n : ℕ) (h : Ghost) (e p operation : ℕ) (m : ℕ → Message) → n ≢ 255 → Shows config w h → AllFit [] → IsPosted (posts_of w.envelopes) e (Node n) p (m operation) → is_lock (m operation) ≡ true
+    → operation ≡ w.coord.operation → h.queued n ≡ None
+    → (let v = view_of config w h in Good config (record v { op = record v.op { queued = put v.op.queued n (Some (m v.op.operation)); last = put v.op.last n v.op.operation } }))
+    → Ends config w n (begun (with_operation (w.nodes n) operation (m operation)))
 unfolding with_operation with_item
-queues config w n h e p operation keys other s fit at newer =
+operation_queues config w n h e p operation m other s fit at lock is none good =
     let node = w.nodes n in
     let v = view_of config w h in
-    let lock = message.Lock operation keys in
-    let k = begun (with_operation (w.nodes n) operation (message.Lock operation keys)) in
-    let comes = lock_comes config v e p operation n keys at newer s.good in
-    let newest : (w.nodes n).last_operation < w.coord.operation = subst (λ o. (w.nodes n).last_operation < o) comes.1 newer in
-    let away = away_none v.map.table w.coord.operation n v.op.work keys (v.op.shut n) (h.queued n) node.last_operation (h.due n) newest comes.2 (s.good.operation.stands n comes.0) in
-    let good = queued_good config v n keys comes.0 newest comes.2 s.good in
-    let later : Ghost = record h { queued = put h.queued n (Some (message.Lock operation keys)) } in
-    let same : record v { op = record v.op { queued = put v.op.queued n (Some (message.Lock v.op.operation keys)); last = put v.op.last n v.op.operation } } ≡ view_in config w n k later = λ i. record (view_begun config w n h other i) {
-      op = operating (sym (put_back (shut_of w.nodes) n) i) (put (last_of w.nodes) n (sym comes.1 i)) w.coord (record h { queued = put h.queued n (Some (message.Lock (sym comes.1 i) keys)) });
+    let k = begun (with_operation (w.nodes n) operation (m operation)) in
+    let later : Ghost = record h { queued = put h.queued n (Some (m operation)) } in
+    let same : record v { op = record v.op { queued = put v.op.queued n (Some (m v.op.operation)); last = put v.op.last n v.op.operation } } ≡ view_in config w n k later = λ i. record (view_begun config w n h other i) {
+      op = operating config (sym (put_back (shut_of w.nodes) n) i) (put (last_of w.nodes) n (sym is i)) w.coord (record h { queued = put h.queued n (Some (m (sym is i))) });
     } in
-    let item : Item = record { number = node.items_numbered; message = message.Lock operation keys } in
-    let listed = locks_join node.items (item ∷ []) ∙ ap (λ ms. ms ++ lock ∷ []) (s.beside.queues n ∙ ap listed_of away) ∙ sym (ap listed_of (put_same h.queued n (Some lock))) in
+    let item : Item = record { number = node.items_numbered; message = m operation } in
+    let one : locks_in (item ∷ []) ≡ m operation ∷ [] = ap (λ b. cond b (m operation ∷ []) []) lock in
+    let listed = locks_join node.items (item ∷ []) ∙ ap (λ ms. locks_in node.items ++ ms) one ∙ ap (λ ms. ms ++ m operation ∷ []) (s.beside.queues n ∙ ap listed_of none) ∙ sym (ap listed_of (put_same h.queued n (Some (m operation)))) in
     let start = begins config w n h other s in
     let placed = s.placed n in (
       later,
       ends config w n k later other fit
-          (beside_freed config w.nodes w.coord h later n k.node other s.good.operation.running (λ l. inl refl) (λ l. refl) (λ l. refl) (λ m apart. put_other h.queued n (Some lock) m apart) listed refl refl refl s.beside)
+          (beside_freed config w.nodes w.coord h later n k.node other s.good.operation.running (λ l. inl refl) (λ l. refl) (λ l. refl) (λ i apart. put_other h.queued n (Some (m operation)) i apart) listed refl refl refl s.beside)
           (record {
             good = subst (Good config) same good;
             here = start.here;
@@ -70,17 +69,26 @@ queues config w n h e p operation keys other s fit at newer =
             items = each_join _ node.items (item ∷ []) start.items ((e, (p, slice_get_front (posts_of w.envelopes) [] e _ at)), tt);
             others_items = start.others_items;
             heard = start.heard;
-            placed = record { number = placed.number; limit = placed.limit; table = placed.table; blocked = placed.blocked; tidy = placed.tidy };
+            placed = record { number = placed.number; limit = placed.limit; blocked = placed.blocked; tidy = placed.tidy };
             others_placed = start.others_placed;
           }),
     )
 
 -- one that is not newer than the last changes nothing
-pub lock_event : (config : Config) (w : World) (n : ℕ) (h : Ghost) (e p operation : ℕ) (keys : List Key) → n ≢ 255 → Shows config w h → AllFit [] → IsPosted (posts_of w.envelopes) e (Node n) p (message.Lock operation keys)
-    → Ends config w n (begun (take_operation (w.nodes n) operation (message.Lock operation keys)))
-lock_event config w n h e p operation keys other s fit at =
+pub operation_event : (config : Config) (w : World) (n : ℕ) (h : Ghost) (operation : ℕ) (m : Message) → n ≢ 255 → Shows config w h → AllFit []
+    → ((w.nodes n).last_operation < operation → Ends config w n (begun (with_operation (w.nodes n) operation m))) → Ends config w n (begun (take_operation (w.nodes n) operation m))
+operation_event config w n h operation m other s fit newer =
     let node = w.nodes n in
-    elim (nat_lt node.last_operation operation) as (λ b. nat_lt node.last_operation operation ≡ b → Ends config w n (begun (cond b (with_operation node operation (message.Lock operation keys)) node))) [
-      | true ↦ λ newer. queues config w n h e p operation keys other s fit at (grind (arith, nat_tests))
+    elim (nat_lt node.last_operation operation) as (λ b. nat_lt node.last_operation operation ≡ b → Ends config w n (begun (cond b (with_operation node operation m) node))) [
+      | true ↦ λ less. newer (grind (arith, nat_tests))
       | false ↦ λ _. stays config w n h other s fit
     ] refl
+
+pub lock_event : (config : Config) (w : World) (n : ℕ) (h : Ghost) (e p operation : ℕ) (keys : List Key) → n ≢ 255 → Shows config w h → AllFit [] → IsPosted (posts_of w.envelopes) e (Node n) p (message.Lock operation keys)
+    → Ends config w n (begun (take_operation (w.nodes n) operation (message.Lock operation keys)))
+lock_event config w n h e p operation keys other s fit at = operation_event config w n h operation (message.Lock operation keys) other s fit (λ newer.
+    let v = view_of config w h in
+    let comes = lock_comes config v e p operation n keys at newer s.good in
+    let newest : (w.nodes n).last_operation < w.coord.operation = subst (λ o. (w.nodes n).last_operation < o) comes.1 newer in
+    let none = away_none v.map.table w.coord.operation n v.op.work keys (v.op.shut n) (h.queued n) (w.nodes n).last_operation (h.due n) newest comes.2 (s.good.operation.stands n comes.0) in
+    operation_queues config w n h e p operation (λ o. message.Lock o keys) other s fit at refl comes.1 none (queued_good config v n keys comes.0 newest comes.2 s.good))

@@ -1,5 +1,5 @@
 -- What a cluster shows before its first event.
-use Rattle.std.proofs.Common.{◌≡◌, ◌≢◌, ◌⊎◌, ⊎_elim, inl, inr, ℕ, suc, ◌+◌, ◌≤◌, Bool, true, false, List, [], length, Some, None, Option, refl, sym, ap, ◌∙◌, subst, arith}
+use Rattle.std.proofs.Common.{◌≡◌, ◌≢◌, ◌⊎◌, ⊎_elim, inl, inr, ℕ, suc, ◌+◌, Bool, true, false, List, [], Some, None, Option, refl, sym, ap, ◌∙◌, subst, arith}
 use Rattle.std.specs.Prelude.{slice_get, unwrap_or, ◌==◌, if◌then◌else◌}
 use Rattle.std.proofs.lemmas.Option.{same_Some}
 use Rattle.fal_base.specs.declared.call.Call.{Call}
@@ -16,7 +16,7 @@ use Rattle.fal_base.proofs.Maps.{put_cases}
 use Rattle.fal_base.proofs.Order.{in_order_with}
 use Rattle.fal_coord.specs.State.{opening_coord}
 use Rattle.fal_node.specs.State.{opening_node, opening_rows}
-use Rattle.fal_place.specs.Placement.{Placement, owner, opening_table}
+use Rattle.fal_place.specs.Placement.{Placement, owner}
 use Rattle.fal_wire.specs.Numbers.{ino_field, mode_field, size_field}
 use Rattle.fal_wire.specs.Rows.{kind_field, inode_field}
 use Rattle.fal_story.proofs.Events.Shows.{Ghost, Shows, IsPlaced, view_of}
@@ -27,7 +27,6 @@ use Rattle.fal_story.proofs.View.{View}
 use Rattle.fal_story.proofs.Phase.{Idle}
 use Rattle.fal_story.proofs.Ranges.Bounds.{IsRanged, IsNodeRanged, IsNodeCounted}
 use Rattle.fal_story.proofs.Ranges.CoordBounds.{IsCoordRanged}
-use Rattle.fal_story.proofs.Ranges.RowCounts.{with_most}
 use Rattle.fal_story.proofs.Ranges.RowRanges.{AreRowsRanged}
 use Rattle.fal_story.proofs.Trees.Standing.{row_of, table_of}
 use Rattle.fal_story.specs.Clusters.{IsCluster, calls_of_lane}
@@ -74,7 +73,7 @@ abbrev no_call : CallRec
 no_call = record { id = record { client = 0; seq = 0; attempt = 0; hop = 0 }; cred = record { uid = 0; gid = 0 }; version = 0; op = op.Stat (GoodPath []) }
 
 abbrev pub opening_ghost : Ghost
-opening_ghost = record { call = λ _. no_call; since = λ _. 0; phase = λ _. Idle; crossed = λ _. []; queued = λ _. None; due = λ _. []; starts = []; placings = []; before = opening_table 1 }
+opening_ghost = record { call = λ _. no_call; since = λ _. 0; phase = λ _. Idle; crossed = λ _. []; queued = λ _. None; due = λ _. []; starts = []; placings = [] }
 
 lane_at_start : (lane : Option (List Call)) (k : ℕ) → slice_get (unwrap_or lane []) k ≡ lane_call lane (suc k)
 lane_at_start None k = refl
@@ -184,6 +183,7 @@ good_at_first config cluster = record {
   };
   knowing = record {
     recorded = refl;
+    within = refl;
     knows = λ l. (0, omega arith, refl);
     version = λ l busy. absurd (busy refl);
     told = λ l old new e. absurd (cc);
@@ -199,8 +199,7 @@ unfolding opening_node
 placed_at_start config n = record {
   number = refl;
   limit = refl;
-  table = refl;
-  blocked = refl;
+  blocked = tt;
   tidy = record { tickets = refl; apart = tt; below = tt; pending = tt; tied = tt };
 }
 
@@ -210,12 +209,12 @@ opening_shows config cluster = record {
   good = good_at_start config cluster;
   held = λ n. record { waiters = tt; planned = tt; waiters_apart = tt; planned_apart = tt };
   items = λ n. tt;
-  heard = λ l. record { lane = refl; nodes = refl; table = refl; left = λ k. left_at_start config l k; none = λ is. refl; some = λ current is. absurd (cc) };
+  heard = λ l. record { lane = refl; nodes = refl; left = λ k. left_at_start config l k; none = λ is. refl; some = λ current is. absurd (cc) };
   placed = λ n. placed_at_start config n;
   beside = record {
     queues = λ n. refl;
     holding = λ n. record { below = tt; planned = λ l p plans. absurd (cc) };
-    hosts = record { table = refl; waiters = tt; apart = tt; current = tt };
+    hosts = record { waiters = tt; apart = tt; current = tt; numbered = omega arith };
   };
 }
 
@@ -241,12 +240,9 @@ node_ranged_at_start n nodes limit = record {
   batches = tt;
 }
 
-few_rows_at_start : (n : ℕ) → length (opening_rows n) ≤ 1
-few_rows_at_start n = elim (n == 0) as (λ b. length (if b then tree0 else []) ≤ 1) [ true ↦ with_most [] root_key root refl | false ↦ omega arith ]
-
 node_counted_at_start : (n nodes limit : ℕ) → IsNodeCounted 0 (opening_node n nodes limit)
 unfolding opening_node
-node_counted_at_start n nodes limit = let few = few_rows_at_start n in record { tickets = omega arith; items = omega arith; batches = omega arith; fetches = omega arith; rows = omega arith }
+node_counted_at_start n nodes limit = record { tickets = omega arith; items = omega arith; batches = omega arith; fetches = omega arith }
 
 coord_ranged_at_start : (nodes : ℕ) → IsCoordRanged 0 (opening_coord nodes)
 unfolding opening_coord
@@ -254,6 +250,7 @@ coord_ranged_at_start nodes = record { waiting = tt; replica = λ key dentry is.
 
 pub opening_ranged : (config : Config) → IsRanged (opening_world config)
 opening_ranged config = record {
+  clients = λ l. omega arith;
   nodes = λ n. node_ranged_at_start n config.nodes config.batch;
   counted = λ n. node_counted_at_start n config.nodes config.batch;
   coord = coord_ranged_at_start config.nodes;

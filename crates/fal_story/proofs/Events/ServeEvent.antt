@@ -1,16 +1,19 @@
 -- An item is served, and a batch is released.
 use Rattle.std.proofs.Common.{◌≡◌, ◌≢◌, inl, ⊎_elim, ℕ, ◌+◌, ◌<◌, Bool, true, false, not, ◌&&◌, ◌||◌, cond, List, [], ◌∷◌, ◌++◌, length, filter, Option, Some, None, refl, sym, ap, subst, ◌∙◌, arith}
-use Rattle.std.specs.Prelude.{◌==◌}
+use Rattle.std.specs.Prelude.{◌==◌, slice_get}
 use Rattle.std.specs.List.{All, find, list_any}
 use mathlib.Core.Path.{fun_ext}
 use Rattle.std.proofs.lemmas.Bool.{eq-eqb, eqb-true}
+use Rattle.std.proofs.lemmas.Cmp.{nat_list_eq_equiv}
 use Rattle.std.proofs.lemmas.Map.Views.{any-filter_same}
 use Rattle.std.proofs.lemmas.Option.{same_Some}
+use Rattle.fal_base.specs.declared.barred.Barred.{Barred}
+use Rattle.fal_base.specs.declared.barred.Barred.TheVariants as barred
 use Rattle.fal_base.specs.declared.call.Config.{Config}
 use Rattle.fal_base.specs.declared.event.Actor.TheVariants.{Node, Coord}
 use Rattle.fal_base.specs.declared.event.Point.TheVariants.{Here}
 use Rattle.fal_base.specs.declared.key.Key.{Key}
-use Rattle.fal_base.specs.Tree.{row_at}
+use Rattle.fal_base.specs.Tree.{IsInOrder, row_at}
 use Rattle.fal_batch.proofs.KeyLists.{same_turned}
 use Rattle.fal_batch.proofs.Truth.{both_first, both_second}
 use Rattle.fal_batch.specs.Fate.{bars}
@@ -20,36 +23,38 @@ use Rattle.fal_locks.specs.declared.holder.Shut.{Shut}
 use Rattle.fal_locks.specs.Keys.{has_key}
 use Rattle.fal_locks.specs.Locks.{is_shut, shut_keys_of}
 use Rattle.fal_node.specs.declared.batch.Batch.{Batch}
+use Rattle.fal_node.specs.declared.blocking.Blocking.{Blocking}
 use Rattle.fal_node.specs.declared.event.NodeEvent.TheVariants.{Release, Serve}
 use Rattle.fal_node.specs.declared.item.Item.{Item}
 use Rattle.fal_wire.specs.declared.letter.Letter.{Letter}
 use Rattle.fal_node.specs.Letters.{Work, begun, asker_of}
-use Rattle.fal_node.specs.Serve.{can_serve, can_shut, can_tell, owns, served, served_as, serve, service_of, fetch_letter, lock_service}
+use Rattle.fal_node.specs.Serve.{can_block, can_serve, can_shut, can_tell, owns, served, served_as, serve, service_of, fetch_letter, block_service, lock_service}
 use Rattle.fal_node.specs.State.{NodeState, batch_of, blocked_names, item_of, without_item, released}
 use Rattle.fal_node.specs.Step.{node_step, release, only_if}
-use Rattle.fal_place.specs.Placement.{owner}
+use Rattle.fal_place.specs.Placement.{owner, same_name}
 use Rattle.fal_wait.specs.Lists.{without_first}
 use Rattle.fal_wire.specs.declared.message.Message.{Message}
 use Rattle.fal_wire.specs.declared.message.Message.TheVariants as message
 use Rattle.fal_wire.specs.Messages.{Fits}
 use Rattle.fal_wire.specs.Letters.{letter}
 use Rattle.fal_story.proofs.Events.Besides.{beside_still, beside_stepped}
-use Rattle.fal_story.proofs.Events.FirstTable.{asked_owner, node_table, none_barred}
 use Rattle.fal_story.proofs.Events.Freed.{locks_without}
-use Rattle.fal_story.proofs.Events.InStep.{view_in, InStep, Ends, begins, ends, view_begun}
+use Rattle.fal_story.proofs.Events.InStep.{InStep, Ends, begins, ends, view_begun}
 use Rattle.fal_story.proofs.Events.Sends.{sends, each_found, each_without_first}
+use Rattle.fal_story.proofs.Events.ServeBlock.{block_served}
 use Rattle.fal_story.proofs.Events.ServeLock.{lock_served}
-use Rattle.fal_story.proofs.Events.Shows.{Ghost, Shows, Beside, Held, Holds, is_lock, view_of, posts_of, calls_in, pending_calls}
+use Rattle.fal_story.proofs.Events.Shows.{Ghost, Shows, Beside, Held, Holds, barred_name, barred_of, is_lock, fetches_of, view_of, posts_of, calls_in, pending_calls}
+use Rattle.fal_story.proofs.Events.Tables.{owner_at, owner_there}
 use Rattle.fal_story.proofs.Families.Bars.{IsBarred}
 use Rattle.fal_story.proofs.Lists.Grown.{tells, unequal}
 use Rattle.fal_story.proofs.Lists.Members.{find_in, find_other}
 use Rattle.fal_story.proofs.Phase.{Phase}
 use Rattle.fal_story.proofs.Steps.Posted.{IsFine}
-use Rattle.fal_story.proofs.View.{IsPosted, seat}
+use Rattle.fal_story.proofs.View.{Asking, IsPosted, seat}
 use Rattle.fal_story.proofs.Families.Clear.{IsShut}
 use Rattle.fal_story.proofs.Steps.Reads.{read_row}
 use Rattle.fal_story.specs.Clusters.{IsCluster}
-use Rattle.fal_story.specs.World.{World, put}
+use Rattle.fal_story.specs.World.{World, point_of, put}
 
 -- ---- what a served item is
 
@@ -92,46 +97,74 @@ asker_seat asker = ⊎_elim
     (λ other. ap (λ b. seat (cond b Coord (Node asker))) other.0)
     (tells asker 255)
 
-same_node : (a b : ℕ) → Node a ≡ Node b → a ≡ b
-same_node a b e = cc
+-- the name is not blocked there
+free_names : (operation : ℕ) (names : Barred) (name : List ℕ) → not (bars names name) ≡ true → IsBarred (barred_name operation names) name → ⊥
+free_names operation barred.Nothing name free is = is
+free_names operation (barred.One own) name free is = let blocked : same_name own name ≡ true = ap (same_name own) (sym is) ∙ nat_list_eq_equiv.refl own in cc
+free_names operation barred.All name free is = is
 
--- the key lives here
-owns_key : (config : Config) (w : World) (n : ℕ) (h : Ghost) (e p asker number : ℕ) (key : Key) → Shows config w h → IsPosted (posts_of w.envelopes) e (Node n) p (message.FetchAsk asker number key)
-    → owner (w.nodes n).table key ≡ (w.nodes n).number
-owns_key config w n h e p asker number key s sent =
-    ap (λ t. owner t key) (node_table config w h s n) ∙ sym (same_node n (owner w.coord.table key) (asked_owner config w h s e p asker number (Node n) key sent)) ∙ sym (s.placed n).number
+free_name : (blocked : Option Blocking) (name : List ℕ) → not (bars (blocked_names blocked) name) ≡ true → IsBarred (barred_of blocked) name → ⊥
+free_name None name free is = is
+free_name (Some blocking) name free is = free_names blocking.operation blocking.names name free is
 
--- and is not shut
-open_key : (node : NodeState) (key : Key) → owner node.table key ≡ node.number → can_tell node key ≡ true → IsShut node.locks.shut key → ⊥
+-- and where the key lives here, it is not shut
+open_key : (node : NodeState) (key : Key) → owns node key ≡ true → can_tell node key ≡ true → IsShut node.locks.shut key → ⊥
 open_key node key owned can is =
     let second = both_second (not (bars (blocked_names node.blocked) key.name)) (not (owns node key) || not (is_shut node.locks key)) can in
-    let open' : not (is_shut node.locks key) ≡ true = sym (ap (λ b. not b || not (is_shut node.locks key)) (eq-eqb (owner node.table key) node.number owned)) ∙ second in
+    let open' : not (is_shut node.locks key) ≡ true = sym (ap (λ b. not b || not (is_shut node.locks key)) owned) ∙ second in
     off node.locks.shut open' is
   where
     off : (shut : Option Shut) → not (has_key (shut_keys_of shut) key) ≡ true → IsShut shut key → ⊥
     off None free among = among
     off (Some s) free among = let here : has_key s.keys key ≡ true = ap (λ test. list_any test s.keys) (fun_ext (λ other. same_turned key other)) ∙ among in cc
 
-fine_served : (config : Config) (w : World) (n : ℕ) (h : Ghost) (e p asker number : ℕ) (key : Key) → n < config.nodes → Shows config w h → IsPosted (posts_of w.envelopes) e (Node n) p (message.FetchAsk asker number key)
-    → can_tell (w.nodes n) key ≡ true → IsFine config (view_of config w h) (Node asker) (length w.commits + 0) (message.FetchGot number key (found_of (row_at (w.nodes n).rows key)))
-fine_served config w n h e p asker number key there s sent can =
-    let g = s.good in
-    let owned = same_node n (owner w.coord.table key) (asked_owner config w h s e p asker number (Node n) key sent) in
-    let off = open_key (w.nodes n) key (owns_key config w n h e p asker number key s sent) can in
-    record {
-      asking = (
-        asker,
-        refl,
-        omega arith,
-        ap found_of (read_row config (view_of config w h) n key there (sym owned) off (λ is. subst (λ b. IsBarred b key.name) (none_barred config w h s n) is) g),
-        (g.asking.numbers.ask e p (Node n) asker number key sent).1,
-        λ j f at same. (g.asking.fetches asker j f at).1.1.asks e p (Node n) key (subst (λ i. IsPosted (posts_of w.envelopes) e (Node n) p (message.FetchAsk asker i key)) (sym same) sent),
-      );
-      records = (asker, refl);
-      operation = tt;
-      bars = tt;
-      knowing = tt;
-    }
+module _ (config : Config) (w : World) (n : ℕ) (h : Ghost) (e p asker number : ℕ) (key : Key) (there : n < config.nodes) (s : Shows config w h) (sent : IsPosted (posts_of w.envelopes) e (Node n) p (message.FetchAsk asker number key))
+    (can : can_tell (w.nodes n) key ≡ true) where
+  -- the letter is fine to be sent now
+  abbrev IsFineLetter : Letter → Type 0
+  IsFineLetter l = IsFine config (view_of config w h) (seat l.to) (point_of (length w.commits) l.point) l.message
+
+  free : IsBarred (barred_of (w.nodes n).blocked) key.name → ⊥
+  free = free_name (w.nodes n).blocked key.name (both_first (not (bars (blocked_names (w.nodes n).blocked) key.name)) (not (owns (w.nodes n) key) || not (is_shut (w.nodes n).locks key)) can)
+
+  -- a pending fetch of this number is for this key
+  for_key : (j : ℕ) (f : Asking) → slice_get (fetches_of w.nodes w.coord asker) j ≡ Some f → f.number ≡ number → key ≡ f.key
+  for_key j f at same = (s.good.asking.fetches asker j f at).1.1.asks e p (Node n) key (subst (λ i. IsPosted (posts_of w.envelopes) e (Node n) p (message.FetchAsk asker i key)) (sym same) sent)
+
+  -- the owner tells the asker by its row, which is the tree's
+  told_fine : owns (w.nodes n) key ≡ true → IsFineLetter (got asker number key (w.nodes n))
+  told_fine owned =
+      let node = w.nodes n in
+      let own : owner w.coord.table key ≡ n = sym (owner_at config w h s n key there free) ∙ eqb-true (owner node.table key) node.number owned ∙ (s.placed n).number in
+      let row = read_row config (view_of config w h) n key there own (open_key node key owned can) free s.good in
+      subst (λ to. IsFine config (view_of config w h) to (length w.commits + 0) (message.FetchGot number key (found_of (row_at node.rows key)))) (sym (asker_seat asker))
+      (record {
+        asking = (asker, refl, omega arith, ap found_of row, (s.good.asking.numbers.ask e p (Node n) asker number key sent).1, for_key);
+        records = (asker, refl);
+        operation = tt;
+        bars = tt;
+        knowing = tt;
+      })
+
+  -- another node asks the owner, as it was asked
+  asked_fine : IsFineLetter (letter (Node (owner (w.nodes n).table key)) (Here 0) (message.FetchAsk asker number key))
+  asked_fine =
+      let known = s.good.asking.numbers.ask e p (Node n) asker number key sent in
+      let to = owner (w.nodes n).table key in
+      record {
+        asking = (known.0, known.1, (to, refl, owner_there config w h s n key there free, λ _. owner_at config w h s n key there free), for_key);
+        records = (to, refl);
+        operation = s.good.operation.told e p (Node n) (message.FetchAsk asker number key) sent;
+        bars = tt;
+        knowing = tt;
+      }
+
+  fine_served : IsFineLetter (fetch_letter (w.nodes n) asker number key)
+  fine_served =
+      elim (owns (w.nodes n) key) as (λ b. owns (w.nodes n) key ≡ b → IsFineLetter (cond b (got asker number key (w.nodes n)) (letter (Node (owner (w.nodes n).table key)) (Here 0) (message.FetchAsk asker number key)))) [
+        | true ↦ told_fine
+        | false ↦ λ _. asked_fine
+      ] refl
 
 -- ---- the step
 
@@ -141,13 +174,10 @@ served_in : (config : Config) (w : World) (n : ℕ) (h : Ghost) (e p at asker nu
 unfolding served without_item
 served_in config w n h e p at asker number key there other s sent can =
     let node = w.nodes n in
-    let is = fetch_letter_is node asker number key (owns_key config w n h e p asker number key s sent) in
-    let x = sends config w n (begun node) h node.waiting.calls (calls_in node.batches) (got asker number key node)
-    (subst (λ to. IsFine config (view_in config w n (begun node) h) to (length w.commits + 0) (message.FetchGot number key (found_of (row_at node.rows key)))) (sym (asker_seat asker))
-    (subst (λ v. IsFine config v (Node asker) (length w.commits + 0) (message.FetchGot number key (found_of (row_at node.rows key)))) (view_begun config w n h other) (fine_served config w n h e p asker number key there s sent can)))
+    let told = fetch_letter node asker number key in
+    let y = sends config w n (begun node) h node.waiting.calls (calls_in node.batches) told
+    (subst (λ v. IsFine config v (seat told.to) (point_of (length w.commits) told.point) told.message) (view_begun config w n h other) (fine_served config w n h e p asker number key there s sent can))
     (begins config w n h other s) in
-    let y : InStep config w n (record (begun node) { sent = fetch_letter node asker number key ∷ [] }) h node.waiting.calls (calls_in node.batches) =
-    subst (λ (l : Letter). InStep config w n (record (begun node) { sent = l ∷ [] }) h node.waiting.calls (calls_in node.batches)) (sym is) x in
     record {
       good = y.good;
       here = y.here;
@@ -155,7 +185,7 @@ served_in config w n h e p at asker number key there other s sent can =
       items = each_without_first _ (λ item. item.number == at) node.items y.items;
       others_items = y.others_items;
       heard = y.heard;
-      placed = record { number = y.placed.number; limit = y.placed.limit; table = y.placed.table; blocked = y.placed.blocked; tidy = y.placed.tidy };
+      placed = record { number = y.placed.number; limit = y.placed.limit; blocked = y.placed.blocked; tidy = y.placed.tidy };
       others_placed = y.others_placed;
     }
 
@@ -182,12 +212,21 @@ locked_ends config w n h item operation keys below other s there is can fit =
     λ i. served_as (service_of (w.nodes n) (sym is i)) item.number in
     subst (Ends config w n) same (lock_served config w n h item operation keys below other s there is can (subst (λ (j : Work). All (λ letter. Fits letter.message) j.sent) (sym same) fit))
 
+blocked_ends : (config : Config) (w : World) (n : ℕ) (h : Ghost) (item : Item) (operation : ℕ) (name : List ℕ) → n < config.nodes → n ≢ 255 → Shows config w h → IsInOrder (w.nodes n).rows → item_of (w.nodes n) item.number ≡ Some item
+    → item.message ≡ message.Block operation name → can_block (w.nodes n) name ≡ true → All (λ letter. Fits letter.message) (served (w.nodes n) item).sent → Ends config w n (served (w.nodes n) item)
+unfolding served
+blocked_ends config w n h item operation name below other s sorted there is can fit =
+    let same : served_as (block_service (w.nodes n) operation name) item.number ≡ served_as (service_of (w.nodes n) item.message) item.number =
+    λ i. served_as (service_of (w.nodes n) (sym is i)) item.number in
+    subst (Ends config w n) same (block_served config w n h item operation name below other s sorted there is can (subst (λ (j : Work). All (λ letter. Fits letter.message) j.sent) (sym same) fit))
+
 -- by the kind of the item
-served_by : (config : Config) (w : World) (n : ℕ) (h : Ghost) (item : Item) (m : Message) → n < config.nodes → n ≢ 255 → Shows config w h → item_of (w.nodes n) item.number ≡ Some item
+served_by : (config : Config) (w : World) (n : ℕ) (h : Ghost) (item : Item) (m : Message) → n < config.nodes → n ≢ 255 → Shows config w h → IsInOrder (w.nodes n).rows → item_of (w.nodes n) item.number ≡ Some item
     → item.message ≡ m → can_serve (w.nodes n) m ≡ true → All (λ letter. Fits letter.message) (served (w.nodes n) item).sent → Ends config w n (served (w.nodes n) item)
-served_by config w n h item (message.FetchAsk asker number key) below other s there is can fit = told_ends config w n h item asker number key below other s there is can fit
-served_by config w n h item (message.Lock operation keys) below other s there is can fit = locked_ends config w n h item operation keys below other s there is can fit
-served_by config w n h item others below other s there is can fit = absurd (cc)
+served_by config w n h item (message.FetchAsk asker number key) below other s sorted there is can fit = told_ends config w n h item asker number key below other s there is can fit
+served_by config w n h item (message.Lock operation keys) below other s sorted there is can fit = locked_ends config w n h item operation keys below other s there is can fit
+served_by config w n h item (message.Block operation name) below other s sorted there is can fit = blocked_ends config w n h item operation name below other s sorted there is can fit
+served_by config w n h item others below other s sorted there is can fit = absurd (cc)
 
 -- an item that is found has the number
 numbered : (node : NodeState) (number : ℕ) (item : Item) → item_of node number ≡ Some item → item_of node item.number ≡ Some item
@@ -199,12 +238,12 @@ numbered node number item there =
 apart_seat : (config : Config) (n : ℕ) → IsCluster config → n < config.nodes → n ≢ 255
 apart_seat config n cluster there own = let few = cluster.few_nodes in absurd (omega arith)
 
-pub serve_event : (config : Config) (w : World) (n number : ℕ) (h : Ghost) (k : Work) → IsCluster config → n < config.nodes → Shows config w h → node_step (w.nodes n) (Serve number) ≡ Some k
+pub serve_event : (config : Config) (w : World) (n number : ℕ) (h : Ghost) (k : Work) → IsCluster config → n < config.nodes → Shows config w h → IsInOrder (w.nodes n).rows → node_step (w.nodes n) (Serve number) ≡ Some k
     → All (λ letter. Fits letter.message) k.sent → Ends config w n k
-serve_event config w n number h k cluster there s is =
+serve_event config w n number h k cluster there s sorted is =
     let x = step_served (w.nodes n) number k is in
     subst (λ (j : Work). All (λ letter. Fits letter.message) j.sent → Ends config w n j) x.work
-    (served_by config w n h x.item x.item.message there (apart_seat config n cluster there) s (numbered (w.nodes n) number x.item x.there) refl x.can)
+    (served_by config w n h x.item x.item.message there (apart_seat config n cluster there) s sorted (numbered (w.nodes n) number x.item x.there) refl x.can)
 
 -- ---- a batch is released
 
@@ -282,7 +321,7 @@ released_ends config w n number h batch other s there executed fit =
         items = x.items;
         others_items = x.others_items;
         heard = x.heard;
-        placed = record { number = x.placed.number; limit = x.placed.limit; table = x.placed.table; blocked = x.placed.blocked; tidy = x.placed.tidy };
+        placed = record { number = x.placed.number; limit = x.placed.limit; blocked = x.placed.blocked; tidy = x.placed.tidy };
         others_placed = x.others_placed;
       }),
     )

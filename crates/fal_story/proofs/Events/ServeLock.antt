@@ -26,7 +26,6 @@ use Rattle.fal_wait.specs.declared.waiting_call.WaitingCall.{WaitingCall}
 use Rattle.fal_wait.specs.Waiting.{WaitList, after_cancel, unbound, fetch_of}
 use Rattle.fal_wire.specs.declared.message.Message.{Message}
 use Rattle.fal_wire.specs.declared.message.Message.TheVariants as message
-use Rattle.fal_story.proofs.Events.FirstTable.{node_table}
 use Rattle.fal_story.proofs.Events.Freed.{IsFreed, freed_moves, beside_freed, lock_listed, locks_gone}
 use Rattle.fal_story.proofs.Events.GotEvent.{AllFit}
 use Rattle.fal_story.proofs.Events.HeldCalls.{heard_moves, others_held}
@@ -41,6 +40,7 @@ use Rattle.fal_story.proofs.Lists.Members.{IsIn, each_all, each_map, apart_map, 
 use Rattle.fal_story.proofs.Lists.WaitLists.{rising_map}
 use Rattle.fal_story.proofs.Phase.{Phase, Idle, Asked, Waits, Plans, Runs, Tells, IsHeld, IsCrossing, Told}
 use Rattle.fal_story.proofs.Steps.Arrives.{served_lock_good}
+use Rattle.fal_story.proofs.Steps.Comes.{settled_table}
 use Rattle.fal_story.proofs.Steps.Fetching.{closed_good}
 use Rattle.fal_story.proofs.Steps.Moved.{MayMove, held_for, moved_good}
 use Rattle.fal_story.proofs.View.{View, Kept, Work as Doing, Rests, Walks, Locks, Counts, Ends as EndsAt, post, Blocks, Lands}
@@ -104,8 +104,8 @@ still_planned n (Tells answer) at = absurd at
 held_cancelled : (call : ℕ → CallRec) (phase : ℕ → Phase) (n : ℕ) (ws : List WaitingCall) (ps : List BatchCall) → Held call phase n ws ps → Held call (free_all n phase) n (map unbound ws) ps
 held_cancelled call phase n ws ps h = record {
   waiters = each_map (WaitsAt call (free_all n phase) n) unbound ws
-      (each_weaker (WaitsAt call phase n) _ ws (λ w a. (ap (freed_at n) a.0 ∙ ap (λ b. cond b (Waits n None) (Waits n w.fetch)) (eq-eqb n n refl), a.1, a.2)) h.waiters);
-  planned = each_weaker (PlannedAt call phase n) (PlannedAt call (free_all n phase) n) ps (λ x a. (ap (freed_at n) a.0, a.1)) h.planned;
+      (each_weaker (WaitsAt call phase n) _ ws (λ w a. (ap (freed_at n) a.0 ∙ ap (λ b. cond b (Waits n None) (Waits n w.fetch)) (eq-eqb n n refl), a.1, a.2, a.3)) h.waiters);
+  planned = each_weaker (PlannedAt call phase n) (PlannedAt call (free_all n phase) n) ps (λ x a. (ap (freed_at n) a.0, a.1, a.2)) h.planned;
   waiters_apart = apart_map lane_of unbound ws h.waiters_apart;
   planned_apart = h.planned_apart;
 }
@@ -197,7 +197,7 @@ locking_at table own operation n o keys (EndsAt locked updates missing) shut bar
     (λ x. let none = x.2 in absurd (cc))
     stands
 
-listed_is : (o : Option Message) (m : Message) → IsIn m (listed_of o) → o ≡ Some m
+pub listed_is : (o : Option Message) (m : Message) → IsIn m (listed_of o) → o ≡ Some m
 listed_is None m among = absurd among
 listed_is (Some x) m among = ⊎_elim (λ same. ap Some same) (λ none. absurd none) among
 
@@ -219,6 +219,7 @@ lock_served config w n h item operation keys there other s found is can fit =
     let queued = listed_is (h.queued n) item.message listed in
     let queued_lock : h.queued n ≡ Some (message.Lock operation keys) = queued ∙ ap Some is in
     let locking = locking_at v.map.table (v.map.tables n) w.coord.operation n operation keys v.op.work (v.op.shut n) (v.map.barred n) (h.queued n) (v.op.last n) (h.due n) queued_lock (s.good.operation.stands n there) (s.good.bars.stands n there) in
+    let table_is = settled_table config v n locking.is tt there s.good in
     let phase = free_all n h.phase in
     let later : Ghost = record h { phase = free_all n h.phase; queued = put h.queued n None } in
     let k = locked_work w n item.number operation keys in
@@ -236,9 +237,9 @@ lock_served config w n h item operation keys there other s found is can fit =
     let same : v3 ≡ view_in config w n k later = λ i. record (view_begun config w n h other i) {
       replica = put v.replica n (without_keys (at_seat (λ m. (w.nodes m).replica) w.coord.replica n other i) keys);
       fetches = v2.fetches;
-      posts = posts_of w.envelopes ++ post (Node 255) (length w.commits + 0) (locked_of (sym (node_table config w h s n) i) node.rows (sym placed.number i) (sym locking.number i) keys) ∷ [];
+      posts = posts_of w.envelopes ++ post (Node 255) (length w.commits + 0) (locked_of (sym table_is i) node.rows (sym placed.number i) (sym locking.number i) keys) ∷ [];
       phase = phase;
-      op = operating (put (shut_of w.nodes) n (shut_by (sym locking.number i) keys)) (sym (put_back (last_of w.nodes) n) i) w.coord later;
+      op = operating config (put (shut_of w.nodes) n (shut_by (sym locking.number i) keys)) (sym (put_back (last_of w.nodes) n) i) w.coord later;
     } in
     let freed = λ (l : ℕ). freed_is n (h.phase l) in
     let moves = freed_moves n h.phase later.phase freed in
@@ -253,7 +254,7 @@ lock_served config w n h item operation keys there other s found is can fit =
             items = each_without_first _ test node.items (sent_more (posts_of w.envelopes) (letter_posts (length w.commits) k.sent) n node.items (s.items n));
             others_items = λ m _. s.items m;
             heard = heard_moves config w n h.call h.phase later.phase moves s.heard;
-            placed = record { number = placed.number; limit = placed.limit; table = placed.table; blocked = placed.blocked; tidy = tidy_cancel node.waiting placed.tidy };
+            placed = record { number = placed.number; limit = placed.limit; blocked = placed.blocked; tidy = tidy_cancel node.waiting placed.tidy };
             others_placed = λ m _. s.placed m;
           }),
     )

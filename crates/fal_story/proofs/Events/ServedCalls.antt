@@ -1,5 +1,5 @@
 -- The calls of a cluster, and to whom each of them goes.
-use Rattle.std.proofs.Common.{◌≡◌, ◌≢◌, ℕ, zero, suc, List, [], ◌∷◌, Option, Some, None, refl, sym, ap, subst, arith}
+use Rattle.std.proofs.Common.{◌≡◌, ◌≢◌, ◌∙◌, ℕ, zero, suc, List, [], ◌∷◌, Option, Some, None, refl, sym, ap, subst, arith}
 use Rattle.std.specs.Prelude.{slice_get, IsTrue}
 use Rattle.std.specs.List.{All}
 use Rattle.std.proofs.lemmas.Option.{same_Some}
@@ -11,9 +11,12 @@ use Rattle.fal_base.specs.declared.op.Op.{Op}
 use Rattle.fal_base.specs.declared.op.Op.TheVariants as op
 use Rattle.fal_base.specs.declared.path.PathArg.{PathArg}
 use Rattle.fal_base.specs.declared.path.PathArg.TheVariants.{Good as GoodPath, Bad}
+use Rattle.fal_base.specs.OpPaths.{bad_path, fault_of, first_of}
 use Rattle.fal_base.specs.Transcript.{call_of, numbered, lane_call}
 use Rattle.fal_client.specs.Paths.{addressee, node_for}
 use Rattle.fal_place.specs.Placement.{Placement, route}
+use Rattle.fal_wire.specs.Names.{path_arg_field}
+use Rattle.fal_wire.specs.Ops.{op_field, path_and_mode, path_and_want, path_and_owner, path_and_size, two_paths}
 use Rattle.fal_story.proofs.View.{seat}
 use Rattle.fal_story.specs.Clusters.{IsCluster, IsCall, is_served}
 
@@ -64,4 +67,27 @@ served_at table (op.Chmod path mode) served = node_at table path
 served_at table (op.Chown path uid gid) served = node_at table path
 served_at table (op.Rmdir path) served = (255, refl)
 served_at table (op.Rename old new) served = (255, refl)
+served_at table (op.Place name rule) served = (255, refl)
 served_at table other served = absurd (cc)
+
+-- a path that a record can hold is a good one
+good_of : (path : PathArg) → path_arg_field.Fits path → fault_of path ≡ None
+unfolding path_arg_field
+good_of (GoodPath names) fits = refl
+good_of (Bad fault raw) fits = absurd fits
+
+-- so a call that a record can hold has good paths
+pub good_path : (o : Op) → IsTrue (is_served o) → op_field.Fits o → bad_path o ≡ None
+unfolding op_field path_and_mode path_and_want path_and_owner path_and_size two_paths bad_path
+good_path (op.Mkdir path mode) served fits = good_of path fits.0
+good_path (op.Create path mode) served fits = good_of path fits.0
+good_path (op.Stat path) served fits = good_of path fits
+good_path (op.Access path want) served fits = good_of path fits.0
+good_path (op.Chmod path mode) served fits = good_of path fits.0
+good_path (op.Chown path uid gid) served fits = good_of path fits.0
+good_path (op.Truncate path size) served fits = good_of path fits.0
+good_path (op.Unlink path) served fits = good_of path fits
+good_path (op.Rmdir path) served fits = good_of path fits
+good_path (op.Rename old new) served fits = ap (λ f. first_of f (fault_of new)) (good_of old fits.0) ∙ good_of new fits.1
+good_path (op.Place name rule) served fits = refl
+good_path (op.List path) served fits = absurd (cc)

@@ -1,5 +1,5 @@
 -- What a world shows: its view, and the calls that its lists keep.
-use Rattle.std.proofs.Common.{◌≡◌, ◌≢◌, ℕ, ◌+◌, ◌<◌, ◌==◌, Bool, true, false, ◌&&◌, List, [], ◌∷◌, ◌++◌, length, Option, Some, None}
+use Rattle.std.proofs.Common.{◌≡◌, ◌≢◌, ℕ, ◌+◌, ◌-◌, ◌<◌, ◌≤◌, ◌==◌, Bool, true, false, ◌&&◌, List, [], ◌∷◌, ◌++◌, length, Option, Some, None, is_some}
 use Rattle.std.specs.Prelude.{slice_get, map, filter, IsTrue, if◌then◌else◌, IsSome}
 use Rattle.std.specs.List.{list_any}
 use Rattle.std.specs.Result.{result_ok}
@@ -9,10 +9,13 @@ use Rattle.fal_base.specs.declared.call.CallRec.{CallRec}
 use Rattle.fal_base.specs.declared.call.Config.{Config}
 use Rattle.fal_base.specs.declared.event.Actor.TheVariants.{Node}
 use Rattle.fal_base.specs.declared.event.Envelope.{Envelope}
+use Rattle.fal_base.specs.Names.{is_name}
 use Rattle.fal_base.specs.Transcript.{call_of}
 use Rattle.fal_client.specs.declared.current.Current.{Current}
 use Rattle.fal_client.specs.State.{ClientState}
 use Rattle.fal_base.specs.declared.key.Key.{Key}
+use Rattle.fal_base.specs.declared.op.Op.TheVariants as op
+use Rattle.fal_base.specs.declared.reply.Reply.TheVariants.{Fine}
 use Rattle.fal_base.specs.declared.row.Update.{Update}
 use Rattle.fal_base.specs.Marks.{Marks}
 use Rattle.fal_coord.specs.declared.stage.Operation.{Operation}
@@ -22,14 +25,15 @@ use Rattle.fal_coord.specs.Decide.{verdict_on}
 use Rattle.fal_coord.specs.Judged as judged
 use Rattle.fal_coord.specs.Judged.{is_for_rows}
 use Rattle.fal_coord.specs.State.{CoordState}
-use Rattle.fal_coord.specs.Walks.{walked_paths, is_operation, is_busy, parents_of, with_ends}
+use Rattle.fal_coord.specs.Walks.{walked_paths, is_operation, is_walking, is_busy, parents_of, with_ends}
 use Rattle.fal_dentry.specs.Walk.{Dentries, is_among}
+use Rattle.fal_exec.specs.RowCall.{row_names}
 use Rattle.fal_locks.specs.Keys.{has_key}
 use Rattle.fal_locks.specs.Locks.{LockTable}
 use Rattle.fal_locks.specs.declared.holder.Shut.{Shut}
 use Rattle.fal_node.specs.declared.batch.Batch.{Batch}
 use Rattle.fal_node.specs.declared.blocking.Blocking.{Blocking}
-use Rattle.fal_place.specs.Placement.{Placement, Placing}
+use Rattle.fal_place.specs.Placement.{Placement, Placing, table_after}
 use Rattle.fal_run.specs.declared.call.BatchCall.{BatchCall}
 use Rattle.fal_node.specs.declared.item.Item.{Item}
 use Rattle.fal_node.specs.State.{NodeState, batch_of}
@@ -39,18 +43,18 @@ use Rattle.fal_wait.specs.Waiting.{are_rising, WaitList, waits_on, fetch_of}
 use Rattle.fal_wire.specs.declared.message.Message.{Message}
 use Rattle.fal_wire.specs.declared.message.Message.TheVariants as message
 use Rattle.fal_wire.specs.Messages.{reading}
-use Rattle.fal_story.proofs.Events.Doing.{work_of, awaited}
+use Rattle.fal_story.proofs.Events.Doing.{work_of, name_in, rule_in, awaited}
 use Rattle.fal_story.proofs.Good.{Good}
 use Rattle.fal_story.proofs.Lists.Each.{Each, Apart}
 use Rattle.fal_story.proofs.Phase.{Phase, Idle, Waits, Plans}
-use Rattle.fal_story.proofs.Trees.Standing.{table_of}
+use Rattle.fal_story.proofs.Trees.PlaceAnswers.{table_reply}
 use Rattle.fal_story.proofs.Lists.Members.{IsIn}
 use Rattle.fal_story.proofs.View.{View, Post, Asking, Operating, Mapped, IsPosted, plain, seat}
 use Rattle.fal_story.specs.World.{World, put}
 
 -- what no state has: of each lane its last call, the commits when it was sent, where it is, and the keys on which its place rests; of each
 -- node the Lock or the Block that is its next item, and the updates that it has still to lay; the calls for which operations were started;
--- and the placements that were made, and the table before the last of them
+-- and the placements that were made
 pub record Ghost : Type 0 where
   pub call : ℕ → CallRec
   pub since : ℕ → ℕ
@@ -60,7 +64,6 @@ pub record Ghost : Type 0 where
   pub due : ℕ → List Update
   pub starts : List (ℕ × ℕ)
   pub placings : List Placing
-  pub before : Placement
 
 abbrev pub post_of : Envelope → Post
 post_of e = record { to = seat e.to; point = e.point; message = result_ok (reading e.bytes) }
@@ -73,14 +76,18 @@ askings_of fetches = map (λ f. record { number = f.number; key = f.key }) fetch
 
 -- ---- what an operation has under way
 
-abbrev pub operating : (ℕ → Option Shut) → (ℕ → ℕ) → CoordState → Ghost → Operating
-operating shut last coord h = record {
+-- the table before the last placement
+abbrev pub before_in : Config → Ghost → Placement
+before_in config h = table_after config.nodes h.placings (length h.placings - 1)
+
+abbrev pub operating : Config → (ℕ → Option Shut) → (ℕ → ℕ) → CoordState → Ghost → Operating
+operating config shut last coord h = record {
   shut = shut;
   queued = h.queued;
   last = last;
   due = h.due;
   operation = coord.operation;
-  work = work_of h.before coord.stage;
+  work = work_of (before_in config h) coord.stage;
   starts = h.starts;
   crossed = h.crossed;
 }
@@ -145,7 +152,7 @@ view_of config w h = record {
   call = h.call;
   since = h.since;
   phase = h.phase;
-  op = operating (shut_of w.nodes) (last_of w.nodes) w.coord h;
+  op = operating config (shut_of w.nodes) (last_of w.nodes) w.coord h;
   map = mapped (tables_of w.nodes) (barred_in w.nodes) w.clients w.coord h;
 }
 
@@ -165,12 +172,12 @@ abbrev pub calls_in : List Batch → List BatchCall
 calls_in [] = []
 calls_in (batch ∷ batches) = pending_calls batch ++ calls_in batches
 
--- the call waits at this node, whose number is not the coordinator's
+-- the call waits at this node, whose number is not the coordinator's; it is a call on rows
 abbrev pub WaitsAt : (ℕ → CallRec) → (ℕ → Phase) → ℕ → WaitingCall → Type 0
-WaitsAt call phase n w = (phase (lane_of w) ≡ Waits n w.fetch) × (w.call ≡ call (lane_of w)) × (n ≢ 255)
+WaitsAt call phase n w = (phase (lane_of w) ≡ Waits n w.fetch) × (w.call ≡ call (lane_of w)) × (n ≢ 255) × IsTrue (is_some (row_names w.call.op))
 
 abbrev pub PlannedAt : (ℕ → CallRec) → (ℕ → Phase) → ℕ → BatchCall → Type 0
-PlannedAt call phase n x = (phase (planned_lane x) ≡ Plans n x) × (x.call ≡ call (planned_lane x))
+PlannedAt call phase n x = (phase (planned_lane x) ≡ Plans n x) × (x.call ≡ call (planned_lane x)) × IsTrue (is_some (row_names x.call.op))
 
 -- the calls that a node keeps
 pub record Held (call : ℕ → CallRec) (phase : ℕ → Phase) (n : ℕ) (ws : List WaitingCall) (ps : List BatchCall) : Type 0 where
@@ -195,28 +202,32 @@ pub record IsTidy (list : WaitList) : Type 0 where
 abbrev pub AreSent : List Post → ℕ → List Item → Type 0
 AreSent posts n items = Each (λ item. (e : ℕ) × ((p : ℕ) × IsPosted posts e (Node n) p item.message)) items
 
--- a client agrees
+-- a client agrees. Its table is one of those that the placements left, as what clients know says
 pub record Heard (config : Config) (call : ℕ → CallRec) (phase : ℕ → Phase) (l : ℕ) (c : ClientState) : Type 0 where
   pub lane : c.lane ≡ l
   pub nodes : c.nodes ≡ config.nodes
-  pub table : c.table ≡ table_of config
   pub left : (k : ℕ) → slice_get c.left k ≡ call_of config l (c.seq + 1 + k)
   pub none : c.current ≡ None → phase l ≡ Idle
-  pub some : (current : Current) → c.current ≡ Some current → (phase l ≢ Idle) × (current.call ≡ plain (call l)) × (current.attempt ≡ 1) × (current.listing ≡ None)
+  pub some : (current : Current) → c.current ≡ Some current → (phase l ≢ Idle) × (current.call ≡ plain (call l)) × (current.attempt ≡ (call l).id.attempt) × (current.listing ≡ None)
 
--- a node is the one of its number, by the table of a cluster in which nothing moves; nothing is blocked, and its waiting list is tidy
+-- what is blocked is one name
+abbrev pub HasOneName : Option Blocking → Type 0
+HasOneName None = Unit {0}
+HasOneName (Some blocking) = (name : List ℕ) × (blocking.names ≡ blocked.One name) × (is_name name ≡ true)
+
+-- a node is the one of its number; it has blocked no more than one name, and its waiting list is tidy
 pub record IsPlaced (config : Config) (n : ℕ) (x : NodeState) : Type 0 where
   pub number : x.number ≡ n
   pub limit : x.limit ≡ config.batch
-  pub table : x.table ≡ table_of config
-  pub blocked : x.blocked ≡ None
+  pub blocked : HasOneName x.blocked
   pub tidy : IsTidy x.waiting
 
 -- ---- what is known beside, of nodes and of the coordinator
 
--- the Locks among the items
+-- the Locks and Blocks among the items
 abbrev pub is_lock : Message → Bool
 is_lock (message.Lock operation keys) = true
+is_lock (message.Block operation name) = true
 is_lock other = false
 
 abbrev pub locks_in : List Item → List Message
@@ -249,25 +260,37 @@ pub record Suits (operation : Operation) : Type 0 where
   pub rows : IsTrue (is_for_rows operation.call.op (parents_of operation.walks))
   pub keys : operation.keys ≡ with_ends [] (walked_paths operation.call.op) operation.walks
 
--- the call that the coordinator is at. In each stage that waits for nodes, some node is still to be heard
-abbrev pub IsCurrent : (ℕ → CallRec) → (ℕ → Phase) → Stage → Type 0
-IsCurrent call phase stage.Idle = Unit {0}
-IsCurrent call phase (stage.Walk c number key) =
-    (c ≡ call c.id.client) × (phase c.id.client ≡ Waits 255 (Some number)) × IsTrue (is_operation c.op) × (is_busy c.op ≡ false)
-IsCurrent call phase (stage.Lock operation missing rows) = (operation.call ≡ call operation.call.id.client) × Suits operation × (missing ≢ [])
-IsCurrent call phase (stage.Count operation rows dir updates missing counts) =
+-- the call places a name, and by the table it is answered ok
+pub record IsPlaceable (nodes : ℕ) (table : Placement) (c : CallRec) : Type 0 where
+  pub places : c.op ≡ op.Place (name_in c.op) (rule_in c.op)
+  pub fine : table_reply nodes table c.cred (name_in c.op) (rule_in c.op) ≡ Fine
+
+-- the call that the coordinator is at, which has the table. In each stage that waits for nodes, some node is still to be heard
+abbrev pub IsCurrent : ℕ → Placement → (ℕ → CallRec) → (ℕ → Phase) → Stage → Type 0
+IsCurrent nodes table call phase stage.Idle = Unit {0}
+IsCurrent nodes table call phase (stage.Walk c number key) =
+    (c ≡ call c.id.client) × (phase c.id.client ≡ Waits 255 (Some number)) × IsTrue (is_walking c.op) × (is_busy c.op ≡ false)
+IsCurrent nodes table call phase (stage.Lock operation missing rows) = (operation.call ≡ call operation.call.id.client) × Suits operation × (missing ≢ [])
+IsCurrent nodes table call phase (stage.Count operation rows dir updates missing counts) =
     (operation.call ≡ call operation.call.id.client) × Suits operation × (missing ≢ []) × (verdict_on operation rows ≡ judged.Count dir updates)
-IsCurrent call phase (stage.Finish keys updates missing) = missing ≢ []
+IsCurrent nodes table call phase (stage.Finish keys updates missing) = missing ≢ []
+IsCurrent nodes table call phase (stage.Block c missing rows) = (c ≡ call c.id.client) × IsPlaceable nodes table c × (missing ≢ [])
+IsCurrent nodes table call phase (stage.Install c missing) = missing ≢ []
 
 abbrev pub WaitsThere : (ℕ → CallRec) → (ℕ → Phase) → CallRec → Type 0
 WaitsThere call phase c = (phase c.id.client ≡ Waits 255 None) × (c ≡ call c.id.client) × IsTrue (is_operation c.op)
 
--- the calls that the coordinator keeps, by the table of a cluster in which nothing moves
+-- each placement was an operation, and while the nodes give rows away, that of the operation under way is still to be made
+abbrev pub IsNumbered : ℕ → ℕ → Stage → Type 0
+IsNumbered version operation (stage.Block c missing rows) = version < operation
+IsNumbered version operation other = version ≤ operation
+
+-- the calls that the coordinator keeps
 pub record Hosts (config : Config) (call : ℕ → CallRec) (phase : ℕ → Phase) (c : CoordState) : Type 0 where
-  pub table : c.table ≡ table_of config
   pub waiters : Each (WaitsThere call phase) c.waiting
   pub apart : Apart (λ (k : CallRec). k.id.client) c.waiting
-  pub current : IsCurrent call phase c.stage
+  pub current : IsCurrent config.nodes c.table call phase c.stage
+  pub numbered : IsNumbered c.table.version c.operation c.stage
 
 -- what is known beside the view and what is kept at each node
 pub record Beside (config : Config) (nodes : ℕ → NodeState) (coord : CoordState) (h : Ghost) : Type 0 where

@@ -1,5 +1,5 @@
 -- The operation of a place: where each node is, which rows are on their way, and what records tell of it.
-use Rattle.std.proofs.Common.{◌≡◌, ◌⊎◌, ℕ, ◌<◌, ◌≤◌, true, false, List, [], map, Option, Some, None}
+use Rattle.std.proofs.Common.{◌≡◌, ◌⊎◌, ℕ, ◌<◌, ◌≤◌, true, false, List, [], Option, Some, None}
 use Rattle.fal_base.specs.declared.event.Actor.{Actor}
 use Rattle.fal_base.specs.declared.event.Actor.TheVariants.{Node}
 use Rattle.fal_base.specs.declared.key.Key.{Key}
@@ -7,9 +7,10 @@ use Rattle.fal_base.specs.declared.row.NamedRow.{NamedRow}
 use Rattle.fal_base.specs.declared.row.Update.{Update}
 use Rattle.fal_base.specs.declared.rule.Rule.{Rule}
 use Rattle.fal_base.specs.Commits.{Commit}
-use Rattle.fal_base.specs.Tree.{Tree, key_of, row_at}
+use Rattle.fal_base.specs.Tree.{Tree, row_at}
 use Rattle.fal_dentry.specs.Walk.{is_among}
 use Rattle.fal_run.specs.declared.call.BatchCall.{BatchCall}
+use Rattle.fal_inode.specs.Named.{puts}
 use Rattle.fal_place.specs.Placement.{Placement, owner, with_rule}
 use Rattle.fal_wire.specs.declared.message.Message.{Message}
 use Rattle.fal_wire.specs.declared.message.Message.TheVariants as message
@@ -66,10 +67,6 @@ AreCame table tree (Blocks lane name rule missing came) = ((key : Key) → is_am
 AreCame table tree other = Unit {0}
 
 -- ---- what records tell
-
--- rows of a name as they are sent, as puts
-abbrev pub puts : List ℕ → List NamedRow → List Update
-puts name rows = map (λ r. record { key = key_of r.parent name; row = Some r.inode }) rows
 
 abbrev pub BlocksName : Work → List ℕ → Type 0
 BlocksName (Blocks lane name rule missing came) asked = name ≡ asked

@@ -22,7 +22,8 @@ use Rattle.fal_story.proofs.View.{Post, Work, Rests, Blocks, Lands}
 use Rattle.fal_story.proofs.Trees.Standing.{row_of, tree_now}
 use Rattle.fal_story.specs.World.{put}
 use Rattle.fal_story.proofs.Families.Barring.{told_started, put_three, at_work}
-use Rattle.fal_story.proofs.Families.Bars.{IsBarred, barred_by, Bar, AreNamed, IsStill, puts, IsToldBar, Bars}
+use Rattle.fal_story.proofs.Families.Bars.{IsBarred, barred_by, Bar, AreNamed, IsStill, IsToldBar, Bars}
+use Rattle.fal_inode.specs.Named.{puts}
 use Rattle.fal_story.proofs.Trees.Laid.{owned_among}
 use Rattle.fal_story.proofs.Families.Operation.{IsMissing, among_below}
 use Rattle.fal_story.proofs.Phase.{Phase, Plans}

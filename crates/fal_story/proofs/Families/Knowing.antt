@@ -1,12 +1,15 @@
 -- Tables and clients: the recorded table is what the placements leave, each client knows one of their tables, and what a Stale tells.
-use Rattle.std.proofs.Common.{◌≡◌, ◌≢◌, ◌⊎◌, inl, inr, ⊎_elim, ℕ, ◌<◌, ◌≤◌, ◌+◌, List, [], ◌∷◌, ◌++◌, length, length-append, refl, sym, ap, ◌∙◌, subst, arith}
+use Rattle.std.proofs.Common.{◌≡◌, ◌≢◌, ◌⊎◌, inl, inr, ⊎_elim, ℕ, ◌<◌, ◌≤◌, ◌+◌, Bool, true, List, [], ◌∷◌, ◌++◌, length, length-append, refl, sym, ap, ◌∙◌, subst, arith}
+use Rattle.std.specs.Prelude.{IsTrue}
+use Rattle.std.specs.List.{list_all}
 use Rattle.fal_base.specs.declared.call.CallId.{CallId}
 use Rattle.fal_base.specs.declared.call.CallRec.{CallRec}
 use Rattle.fal_base.specs.declared.event.Actor.{Actor}
 use Rattle.fal_base.specs.declared.event.Actor.TheVariants.{Client}
 use Rattle.fal_base.specs.declared.rule.RuleChange.{RuleChange}
-use Rattle.fal_place.specs.Placement.{Placement, Placing, with_rule, table_after, changes_since, CatchesUp}
+use Rattle.fal_place.specs.Placement.{Placement, Placing, is_within, with_rule, table_after, changes_since, CatchesUp}
 use Rattle.fal_place.proofs.Carried.{version-table_after, table_after-append, table_after-push}
+use Rattle.fal_place.proofs.Rising.{and_both, and_first, and_second}
 use Rattle.fal_wire.specs.declared.message.Message.{Message}
 use Rattle.fal_wire.specs.declared.message.Message.TheVariants as message
 use Rattle.fal_story.proofs.Lists.Grown.{from_put, put_all, put_both, put_other, put_same, tells}
@@ -49,6 +52,8 @@ IsReached nodes placings table = (j : ℕ) × (j ≤ length placings) × (table 
 
 pub record Knowing (nodes : ℕ) (table : Placement) (placings : List Placing) (known : ℕ → Placement) (posts : List Post) (seq : ℕ → ℕ) (call : ℕ → CallRec) (phase : ℕ → Phase) : Type 0 where
   pub recorded : table ≡ table_after nodes placings (length placings)
+  -- each rule that was set is of nodes that are there
+  pub within : IsTrue (list_all (λ placing. is_within nodes placing.rule) placings)
   pub knows : (l : ℕ) → IsReached nodes placings (known l)
   pub version : (l : ℕ) → phase l ≢ Idle → (call l).version ≡ (known l).version
   pub told : (l old new : ℕ) → phase l ≡ Told old new → (old ≡ (known l).version) × (old < new) × (new ≤ length placings)
@@ -58,6 +63,10 @@ pub record Knowing (nodes : ℕ) (table : Placement) (placings : List Placing) (
 abbrev pub FineKnowing : ℕ → List Placing → (ℕ → ℕ) → (ℕ → CallRec) → (ℕ → Phase) → Actor → Message → Type 0
 FineKnowing nodes placings seq call phase to (message.Stale id old new changes) = (l : ℕ) × (to ≡ Client l) × IsStale nodes placings seq call phase l id old new changes
 FineKnowing nodes placings seq call phase to other = Unit {0}
+
+all_one_more : {A : Type 0} (test : A → Bool) (xs : List A) (x : A) → IsTrue (list_all test xs) → IsTrue (test x) → IsTrue (list_all test (xs ++ x ∷ []))
+all_one_more test [] x all is = and_both (test x) true is refl
+all_one_more test (y ∷ xs) x all is = and_both (test y) (list_all test (xs ++ x ∷ [])) (and_first (test y) (list_all test xs) all) (all_one_more test xs x (and_second (test y) (list_all test xs) all) is)
 
 same_client : (a b : ℕ) → Client a ≡ Client b → a ≡ b
 same_client a b e = cc
@@ -74,6 +83,7 @@ module _ {nodes : ℕ} {table : Placement} {placings : List Placing} {known : �
       → Knowing nodes table placings known posts seq call phase'
   knowing_moved phase' still from to = record {
     recorded = g.recorded;
+    within = g.within;
     knows = g.knows;
     version = λ l busy. g.version l (λ e. busy (still l e));
     told = λ l old new e. g.told l old new (from l old new e);
@@ -84,6 +94,7 @@ module _ {nodes : ℕ} {table : Placement} {placings : List Placing} {known : �
   pub knowing_told : (l old new : ℕ) → phase l ≢ Idle → ((a b : ℕ) → phase l ≢ Told a b) → old ≡ (known l).version → old < new → new ≤ length placings → Knowing nodes table placings known posts seq call (put phase l (Told old new))
   knowing_told l old new busy untold is later below = record {
     recorded = g.recorded;
+    within = g.within;
     knows = g.knows;
     version = put_all (λ a q. q ≢ Idle → (call a).version ≡ (known a).version) phase l (Told old new) (λ _. g.version l busy) (λ a _. g.version a);
     told = put_all (λ a q. (i j : ℕ) → q ≡ Told i j → (i ≡ (known a).version) × (i < j) × (j ≤ length placings)) phase l (Told old new)
@@ -103,6 +114,7 @@ module _ {nodes : ℕ} {table : Placement} {placings : List Placing} {known : �
   pub knowing_posted : (to : Actor) (p : ℕ) (m : Message) → FineKnowing nodes placings seq call phase to m → Knowing nodes table placings known (posts ++ post to p m ∷ []) seq call phase
   knowing_posted to p m fine = record {
     recorded = g.recorded;
+    within = g.within;
     knows = g.knows;
     version = g.version;
     told = g.told;
@@ -110,11 +122,12 @@ module _ {nodes : ℕ} {table : Placement} {placings : List Placing} {known : �
   }
 
   -- a name is placed
-  pub knowing_placed : (placing : Placing) → Knowing nodes (with_rule table placing.name placing.rule) (placings ++ placing ∷ []) known posts seq call phase
-  knowing_placed placing =
+  pub knowing_placed : (placing : Placing) → IsTrue (is_within nodes placing.rule) → Knowing nodes (with_rule table placing.name placing.rule) (placings ++ placing ∷ []) known posts seq call phase
+  knowing_placed placing there =
       let more : length (placings ++ placing ∷ []) ≡ length placings + 1 = length-append placings (placing ∷ []) in
       record {
         recorded = ap (λ t. with_rule t placing.name placing.rule) g.recorded ∙ sym (table_after-push nodes placings placing) ∙ ap (table_after nodes (placings ++ placing ∷ [])) (sym more);
+        within = all_one_more (λ placing. is_within nodes placing.rule) placings placing g.within there;
         knows = λ l. let x = g.knows l in (x.0, let below = x.1 in omega arith, x.2 ∙ sym (table_after-append nodes placings (placing ∷ []) x.0 x.1));
         version = g.version;
         told = λ l old new e. let x = g.told l old new e in let below = x.2 in (x.0, x.1, omega arith);
@@ -149,6 +162,7 @@ module _ {nodes : ℕ} {table : Placement} {placings : List Placing} {known : �
       → Knowing nodes table placings (put known l (table_after nodes placings new)) posts seq (put call l (retried (call l) new)) (put phase l (Asked m))
   knowing_retried l m old new is below = record {
     recorded = g.recorded;
+    within = g.within;
     knows = put_all (λ a t. IsReached nodes placings t) known l (table_after nodes placings new) (new, below, refl) (λ a _. g.knows a);
     version = λ a. put_both (λ a c t. put phase l (Asked m) a ≢ Idle → c.version ≡ t.version) call known l (retried (call l) new) (table_after nodes placings new)
         (λ _. sym (version-table_after nodes placings new below))
@@ -168,6 +182,7 @@ module _ {nodes : ℕ} {table : Placement} {placings : List Placing} {known : �
   pub knowing_sent : (l : ℕ) (c : CallRec) (p : Phase) → phase l ≡ Idle → c.version ≡ (known l).version → ((i j : ℕ) → p ≢ Told i j) → Knowing nodes table placings known posts (put seq l (seq l + 1)) (put call l c) (put phase l p)
   knowing_sent l c p idle knows untold = record {
     recorded = g.recorded;
+    within = g.within;
     knows = g.knows;
     version = put_both (λ a d q. q ≢ Idle → d.version ≡ (known a).version) call phase l c p (λ _. knows) (λ a _. g.version a);
     told = put_all (λ a q. (i j : ℕ) → q ≡ Told i j → (i ≡ (known a).version) × (i < j) × (j ≤ length placings)) phase l p (λ i j e. absurd (untold i j e)) (λ a _. g.told a);
@@ -193,6 +208,7 @@ module _ {nodes : ℕ} {table : Placement} {placings : List Placing} {known : �
   pub knowing_handed : (l : ℕ) (c : CallRec) (p : Phase) → c.version ≡ (call l).version → c.id.attempt ≡ (call l).id.attempt → phase l ≢ Idle → Untold (phase l) → Untold p → Knowing nodes table placings known posts seq (put call l c) (put phase l p)
   knowing_handed l c p version attempt busy was is = record {
     recorded = g.recorded;
+    within = g.within;
     knows = g.knows;
     version = put_both (λ a d q. q ≢ Idle → d.version ≡ (known a).version) call phase l c p (λ _. version ∙ g.version l busy) (λ a _. g.version a);
     told = put_all (λ a q. (i j : ℕ) → q ≡ Told i j → (i ≡ (known a).version) × (i < j) × (j ≤ length placings)) phase l p (λ i j e. absurd (subst Untold e is)) (λ a _. g.told a);

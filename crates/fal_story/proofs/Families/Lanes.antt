@@ -2,6 +2,7 @@
 use Rattle.std.proofs.Common.{◌≡◌, ◌≢◌, ◌⊎◌, inl, inr, ⊎_elim, ℕ, ◌+◌, ◌<◌, ◌≤◌, List, [], ◌∷◌, ◌++◌, length, Option, Some, IsSomeAnd, true, false, refl, sym, ap, ◌∙◌, subst, arith}
 use Rattle.std.specs.Prelude.{slice_get, IsTrue, ◌==◌}
 use Rattle.fal_base.specs.declared.call.CallRec.{CallRec}
+use Rattle.fal_base.specs.declared.call.Cred.{Cred}
 use Rattle.fal_base.specs.declared.event.Actor.TheVariants.{Node}
 use Rattle.fal_base.specs.declared.inode.Inode.{Inode}
 use Rattle.fal_base.specs.declared.key.Key.{Key}
@@ -19,7 +20,8 @@ use Rattle.fal_base.specs.Tree.{Tree}
 use Rattle.fal_base.specs.Walk.{Ready, walk}
 use Rattle.fal_client.specs.Paths.{addressee}
 use Rattle.fal_exec.specs.RowCall.{row_names}
-use Rattle.fal_place.specs.Placement.{Placement, owner}
+use Rattle.fal_batch.specs.Fate.{goes_by_parent, last_of}
+use Rattle.fal_place.specs.Placement.{Placement, owner, route}
 use Rattle.fal_wire.specs.Ops.{op_field}
 use Rattle.fal_story.specs.Clusters.{is_served}
 use Rattle.fal_story.specs.World.{put}
@@ -45,12 +47,16 @@ pub record UnderWay (seq : ℕ → ℕ) (call : ℕ → CallRec) (phase : ℕ �
   pub served : (l : ℕ) → phase l ≢ Idle → IsTrue (is_served (call l).op)
   pub fits : (l : ℕ) → phase l ≢ Idle → op_field.Fits (call l).op
 
--- the walk of the call ends at a key that the node owns
-abbrev pub OwnsLast : Placement → Tree → ℕ → CallRec → Type 0
-OwnsLast table tree n call = IsSomeAnd (row_names call.op) (λ names. (dir : Option Inode) (passed : List ℕ) (last : Key) → walk tree call.cred names ≡ Ready dir passed last → owner table last ≡ n)
+-- calls with these names belong to the node: by the last name alone, or by parent, where the walk ends at a key that the node owns
+pub record OwnsNames (table : Placement) (tree : Tree) (n : ℕ) (cred : Cred) (names : List (List ℕ)) : Type 0 where
+  pub by_name : goes_by_parent table (last_of names) ≡ false → route table names ≡ n
+  pub by_parent : goes_by_parent table (last_of names) ≡ true → (dir : Option Inode) (passed : List ℕ) (last : Key) → walk tree cred names ≡ Ready dir passed last → owner table last ≡ n
 
--- how often a call was handed on: to a node no more often than commits and placements were made, and as often only where the node owns its
--- last key now; once more to the coordinator; and before the first placement to no node: each has the calls that were sent to it
+abbrev pub OwnsLast : Placement → Tree → ℕ → CallRec → Type 0
+OwnsLast table tree n call = IsSomeAnd (row_names call.op) (λ names. OwnsNames table tree n call.cred names)
+
+-- how often a call was handed on: to a node no more often than commits and placements were made, and as often only where the call
+-- belongs to the node now; once more to the coordinator; and before the first placement to no node: each has the calls that were sent to it
 pub record IsRouted (nodes : ℕ) (table : Placement) (commits : List Commit) (n : ℕ) (call : CallRec) : Type 0 where
   pub there : n < nodes → (call.id.hop ≡ 0) ⊎ ((call.id.hop ≤ length commits + table.version) × (call.id.hop ≡ length commits + table.version → OwnsLast table (tree_now commits) n call))
   pub beyond : nodes ≤ n → call.id.hop ≤ 1 + (length commits + table.version)

@@ -56,7 +56,7 @@ module _ (t u : Tree) (Safe : Key → Type 0) (changed : IsChanged t u Safe) (ta
 
 -- ---- another table
 
-retabled : (table table' : Placement) (t : Tree) (n : ℕ) (call : CallRec) (crossed : List Key) (x : BatchCall) (denied : Bool) → (denied ≡ false → owner table' x.last ≡ owner table x.last) → (names : List (List ℕ))
+pub retabled : (table table' : Placement) (t : Tree) (n : ℕ) (call : CallRec) (crossed : List Key) (x : BatchCall) (denied : Bool) → (denied ≡ false → owner table' x.last ≡ owner table x.last) → (names : List (List ℕ))
     → IsPlannedAs table t n call crossed x denied names → IsPlannedAs table' t n call crossed x denied names
 retabled table table' t n call crossed x true same names is = is
 retabled table table' t n call crossed x false same names is = (is.0, is.1, same refl ∙ is.2, is.3)

@@ -1,5 +1,5 @@
 -- The records of a gather: they ask for the directories whose fetches were opened, and hand on or answer the calls that leave, in the order of the plan.
-use Rattle.std.proofs.Common.{◌≡◌, ℕ, ◌+◌, List, [], ◌∷◌, ◌++◌, map, filter_map, Option, Some, None, refl, ap, ◌∙◌}
+use Rattle.std.proofs.Common.{◌≡◌, ℕ, ◌+◌, List, [], ◌∷◌, ◌++◌, map, filter_map, Option, Some, None, refl, ap, ◌∙◌, ⊎_elim, inl, inr}
 use Rattle.fal_base.specs.declared.key.Key.{Key}
 use Rattle.fal_batch.specs.declared.parts.Sending.{Sending}
 use Rattle.fal_batch.specs.declared.parts.Sending.TheVariants as sending
@@ -17,6 +17,7 @@ use Rattle.fal_story.proofs.Lists.GatherPlan.{asked_of, away_of}
 use Rattle.fal_story.proofs.Lists.MadeLists.{made_of}
 use Rattle.fal_story.proofs.Lists.OpenedFetches.{keys_of, pending_of}
 use Rattle.fal_story.proofs.View.{Asking}
+use Rattle.fal_story.proofs.Lists.Members.{IsIn}
 
 -- what a record is for
 pub data Errand : Type 0 where
@@ -105,22 +106,13 @@ each_errand P [] asks parts = tt
 each_errand P (Asks f ∷ errands) asks parts = (asks.0, each_errand P errands asks.1 parts)
 each_errand P (Parts y ∷ errands) asks parts = (parts.0, each_errand P errands asks parts.1)
 
--- ---- where no call leaves
+-- who is asked for, and who leaves, is so by a record
+pub asks_in : (errands : List Errand) (f : Asking) → IsIn f (filter_map asking_of errands) → IsIn (Asks f) errands
+asks_in [] f at = at
+asks_in (Asks g ∷ errands) f at = ⊎_elim (λ here. inl (ap (λ x. Asks x) here)) (λ there. inr (asks_in errands f there)) at
+asks_in (Parts y ∷ errands) f at = inr (asks_in errands f at)
 
-only_asks : (errands : List Errand) → filter_map leaver_of errands ≡ [] → errands ≡ map (λ f. Asks f) (filter_map asking_of errands)
-only_asks [] none = refl
-only_asks (Asks f ∷ errands) none = ap (λ gs. Asks f ∷ gs) (only_asks errands none)
-only_asks (Parts y ∷ errands) none = absurd (cc)
-
-asks_are : (node : NodeState) (opened : List PendingFetch) → map (letter_of node) (map (λ f. Asks f) (askings_of opened)) ≡ map (λ f. ask_letter node f.number f.key) opened
-asks_are node [] = refl
-asks_are node (f ∷ fs) = ap (λ ls. ask_letter node f.number f.key ∷ ls) (asks_are node fs)
-
--- the owners of the keys are asked, in the order of the fetches
-pub letters_are : (node : NodeState) → IsTidy node.waiting → (plan_at node).away ≡ []
-    → gather_letters node node.waiting.opened (plan_at node).sends ≡ map (λ f. ask_letter node f.number f.key) (pending_of node.waiting.opened (plan_at node).fetches)
-letters_are node t none =
-    let l = gathered_letters node t in
-    let errands = errands_of node.waiting node.waiting.opened (plan_at node).sends in
-    let asks = only_asks errands (l.parted ∙ ap (leavers node.waiting) none) in
-    l.letters_are ∙ ap (map (letter_of node)) (asks ∙ ap (map (λ f. Asks f)) l.asked) ∙ asks_are node (pending_of node.waiting.opened (plan_at node).fetches)
+pub parts_in : (errands : List Errand) (y : Leaver) → IsIn y (filter_map leaver_of errands) → IsIn (Parts y) errands
+parts_in [] y at = at
+parts_in (Asks f ∷ errands) y at = inr (parts_in errands y at)
+parts_in (Parts z ∷ errands) y at = ⊎_elim (λ here. inl (ap (λ x. Parts x) here)) (λ there. inr (parts_in errands y there)) at

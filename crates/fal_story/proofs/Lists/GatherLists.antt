@@ -8,7 +8,7 @@ use Rattle.fal_base.proofs.Maps.{same_key_is}
 use Rattle.fal_batch.specs.declared.parts.Away.{Away}
 use Rattle.fal_batch.specs.declared.parts.Planned.{Planned}
 use Rattle.fal_batch.specs.declared.parts.Wanted.{Wanted}
-use Rattle.fal_batch.specs.Fate.{Setting, Skips, Leaves, Waits, Joins, fate}
+use Rattle.fal_batch.specs.Fate.{Setting, Leaves, Waits, Joins, fate}
 use Rattle.fal_batch.specs.Keys.{are_distinct}
 use Rattle.fal_batch.specs.Plan.{Planning, no_plan, plan_of, free_calls, waits_for, waiters_of, tickets_differ}
 use Rattle.fal_batch.proofs.FreeCalls.{free_of, free_calls_are}
@@ -26,7 +26,7 @@ use Rattle.fal_wait.specs.Lists.{has_number}
 use Rattle.fal_wait.specs.Waiting.{WaitList, call_with_ticket}
 use Rattle.fal_story.proofs.Events.Shows.{IsTidy, lane_of, planned_lane}
 use Rattle.fal_story.proofs.Lists.Each.{Each, Apart, each_weaker, each_both}
-use Rattle.fal_story.proofs.Lists.GatherPlan.{Stays, asked_of, away_of, IsGoing, going_calls, IsJoining, Joining, joining_calls, apart_calls, IsLeaving, Leaving, leaving_calls, apart_away, none_away}
+use Rattle.fal_story.proofs.Lists.GatherPlan.{asked_of, away_of, IsGoing, going_calls, IsJoining, Joining, joining_calls, apart_calls, IsLeaving, Leaving, leaving_calls, apart_away}
 use Rattle.fal_story.proofs.Lists.Grown.{or_second, tells, unequal}
 use Rattle.fal_story.proofs.Lists.MadeLists.{made_of, made, each_made, apart_made, in_made}
 use Rattle.fal_story.proofs.Lists.Members.{IsIn, in_back, in_front, in_join, in_map, map_in, in_filter, each_in, each_by, each_all, each_map, each_filter, apart_map, apart_as, apart_filter, apart_same, filter_filter}
@@ -134,9 +134,8 @@ pub record IsGathered (s : Setting) (list after : WaitList) (opened : List Pendi
   pub kept : Each (IsKept s list opened) after.calls
   pub joined : Each (IsJoined s list) batch
   pub gone : Each (IsLeft s list) left
-  -- each is in one place, by its ticket and by its lane
+  -- each is in one place, by its lane
   pub all : Each (IsMet s opened after.calls batch left) list.calls
-  pub ticket_apart : Each (λ w. Each (λ y. y.ticket ≢ w.ticket) left) after.calls
   pub kept_apart : Apart lane_of list.calls → Apart lane_of after.calls
   pub joined_apart : Apart lane_of list.calls → Apart planned_lane batch
   pub gone_apart : Apart lane_of list.calls → Apart left_lane left
@@ -323,10 +322,6 @@ module _ (s : Setting) (list : WaitList) (t : IsTidy list) where
     joined = each_joined (IsJoined s list) (λ w x m free j _. (w, (m, free, refl, j.1)));
     gone = each_left (IsLeft s list) (λ w a m free l _. (w, (m, free, sym l.0, refl, l.1)));
     all = each_by _ list.calls met;
-    ticket_apart = each_after (λ w. Each (λ y. y.ticket ≢ w.ticket) left) (λ w m stay.
-        each_left (λ y. y.ticket ≢ (bound_all s list.opened plan.fetches w).ticket) (λ v a vm free l among same.
-        let wrong : true ≡ false = sym among ∙ ap (has_number (leaving plan)) (same ∙ ticket_bound_all s list.opened plan.fetches w) ∙ stay in
-        absurd (cc)));
     kept_apart = λ lanes.
         subst (λ (l : WaitList). Apart lane_of l.calls) (sym after_is)
         (apart_filter lane_of (λ w. stays w) (map (λ w. bound_all s list.opened plan.fetches w) list.calls)
@@ -355,29 +350,6 @@ module _ (s : Setting) (list : WaitList) (t : IsTidy list) where
   pub away_are : filter_map away_of plan.sends ≡ plan.away
   away_are = going.away
 
--- ---- a call that is skipped
-
--- it stays as it is
-pub skipped_stays : (s : Setting) (list after : WaitList) (opened : List PendingFetch) (batch : List BatchCall) (left : List Leaver) → IsGathered s list after opened batch left → (w : WaitingCall) → IsIn w list.calls
-    → fate s w.call ≡ Skips → IsIn w after.calls
-skipped_stays s list after opened batch left g w m skips =
-    ⊎_elim
-    (λ k. ⊎_elim
-    (λ e. subst (λ v. IsIn v after.calls) e k.1.0)
-    (λ e. let wrong : Skips ≡ Waits e.1.0.key = sym skips ∙ e.1.1.1 in absurd (cc))
-    k.1.1)
-    (λ away. ⊎_elim
-    (λ x.
-    let j = each_in (IsJoined s list) batch x.0 g.joined x.1.0 in
-    let wrong : Skips ≡ Joins x.0.denied x.0.parent x.0.last j.1.3.0 = sym skips ∙ ap (fate s) (sym x.1.1 ∙ j.1.2) ∙ j.1.3.1 in
-    absurd (cc))
-    (λ y.
-    let l = each_in (IsLeft s list) left y.0 g.gone y.1.0 in
-    let wrong : Skips ≡ Leaves y.0.to = sym skips ∙ ap (fate s) (sym y.1.2 ∙ l.1.3) ∙ l.1.4 in
-    absurd (cc))
-    away)
-    (each_in (IsMet s opened after.calls batch left) list.calls w g.all m)
-
 -- ---- a node
 
 -- the node's list, its fetches, the calls of its batch and those that leave when it has gathered
@@ -386,9 +358,3 @@ pub gathered_node : (node : NodeState) → IsTidy node.waiting
     (pending_of node.waiting.opened (plan_at node).fetches) (batch_calls node.waiting (plan_at node).calls) (leavers node.waiting (plan_at node).away)
 unfolding plan_at
 gathered_node node t = gathered_list (setting_at node) node.waiting t
-
--- where each free call stays none leaves
-pub none_leave : (node : NodeState) → IsTidy node.waiting → Each (λ w. w.fetch ≡ None → Stays (fate (setting_at node) w.call)) node.waiting.calls → (plan_at node).away ≡ []
-unfolding plan_at
-none_leave node t stay = none_away (setting_at node) node.waiting.calls (plan_of (setting_at node) node.waiting).away (departing (setting_at node) node.waiting t)
-    (λ w m. each_in (λ v. v.fetch ≡ None → Stays (fate (setting_at node) v.call)) node.waiting.calls w stay m)

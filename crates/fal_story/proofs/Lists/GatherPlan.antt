@@ -198,17 +198,3 @@ leaving_calls s = picked_calls s (λ p. p.away) (IsLeaving s) (leaves_one s)
 pub apart_away : (s : Setting) (p : Planning) (ws : List WaitingCall) → Each (λ w. Each (λ a. a.ticket ≢ w.ticket) p.away) ws → Apart (λ w. w.ticket) ws → Apart (λ a. a.ticket) p.away
     → Apart (λ a. a.ticket) (plan_calls s p ws).away
 apart_away s = apart_picked s (λ p. p.away) (IsLeaving s) (λ (a : Away). a.ticket) (leaves_one s) (λ w a is. is.0)
-
--- ---- where no call leaves
-
--- the call does not leave the node
-abbrev pub Stays : Fate → Type 0
-Stays Skips = Unit {0}
-Stays (Leaves to) = ⊥
-Stays (Waits key) = Unit {0}
-Stays (Joins denied parent last keys) = Unit {0}
-
--- none of the calls with a fate that stays is among those that leave
-pub none_away : (s : Setting) (all : List WaitingCall) (aways : List Away) → Each (Leaving s all) aways → ((w : WaitingCall) → IsIn w all → w.fetch ≡ None → Stays (fate s w.call)) → aways ≡ []
-none_away s all [] leaving stay = refl
-none_away s all (a ∷ aways) leaving stay = absurd (subst Stays leaving.0.1.2.1 (stay leaving.0.0 leaving.0.1.0 leaving.0.1.1))

@@ -57,6 +57,14 @@ newer_hop m =
     ∙ ap (λ r. is_gt (ordering_then r (nat_cmp (m.hop + 1) m.hop))) (sym (nat_cmp_is m.attempt m.attempt Equal refl))
     ∙ ap (λ r. is_gt r) (sym (nat_cmp_is (m.hop + 1) m.hop Greater higher))
 
+-- and so is one that is tried again
+pub newer_attempt : (m : Mark) → is_newer (record m { attempt = m.attempt + 1; hop = 0 }) (Some m) ≡ true
+unfolding mark_cmp
+newer_attempt m =
+    let higher : m.attempt < m.attempt + 1 = omega arith in
+    ap (λ r. is_gt (ordering_then r (ordering_then (nat_cmp (m.attempt + 1) m.attempt) (nat_cmp 0 m.hop)))) (sym (nat_cmp_is m.seq m.seq Equal refl))
+    ∙ ap (λ r. is_gt (ordering_then r (nat_cmp 0 m.hop))) (sym (nat_cmp_is (m.attempt + 1) m.attempt Greater higher))
+
 -- the mark of the client that was put, or of another
 abbrev pub IsMarkOf : Marks → ℕ → Mark → ℕ → Type 0
 IsMarkOf marks client mark q =

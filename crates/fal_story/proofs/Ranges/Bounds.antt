@@ -1,9 +1,7 @@
 -- What holds of every value that an actor keeps, so that each record that it makes is within the ranges of the format, and no counter passes the end of its type.
-use Rattle.std.proofs.Common.{◌≡◌, ℕ, ◌+◌, ◌*◌, ◌≤◌, List, [], ◌∷◌, length, Option, Some, None}
+use Rattle.std.proofs.Common.{◌≡◌, ℕ, ◌+◌, ◌*◌, ◌≤◌, List, [], ◌∷◌, length, Some}
 use Rattle.std.specs.Prelude.{slice_get}
 use Rattle.fal_base.specs.declared.call.CallRec.{CallRec}
-use Rattle.fal_base.specs.declared.event.Actor.{Actor}
-use Rattle.fal_base.specs.declared.event.Actor.TheVariants.{Node}
 use Rattle.fal_base.specs.declared.event.Envelope.{Envelope}
 use Rattle.fal_base.specs.declared.inode.Dentry.{Dentry}
 use Rattle.fal_base.specs.declared.inode.Inode.{Inode}
@@ -12,9 +10,10 @@ use Rattle.fal_base.specs.Maps.{value_at}
 use Rattle.fal_base.specs.Tree.{IsInOrder, row_at}
 use Rattle.fal_client.specs.declared.event.ClientEvent.{ClientEvent}
 use Rattle.fal_client.specs.declared.event.ClientEvent.TheVariants as client
+use Rattle.fal_client.specs.State.{ClientState}
+use Rattle.fal_client.specs.Step.{attempt_of}
 use Rattle.fal_coord.specs.declared.event.CoordEvent.{CoordEvent}
 use Rattle.fal_coord.specs.declared.event.CoordEvent.TheVariants as coord
-use Rattle.fal_locks.specs.declared.holder.Shut.{Shut}
 use Rattle.fal_node.specs.declared.event.NodeEvent.{NodeEvent}
 use Rattle.fal_node.specs.declared.event.NodeEvent.TheVariants as node
 use Rattle.fal_node.specs.declared.item.Item.{Item}
@@ -28,9 +27,9 @@ use Rattle.fal_story.proofs.Lists.Each.{Each}
 use Rattle.fal_story.proofs.Ranges.CoordBounds.{IsCoordRanged}
 use Rattle.fal_story.specs.World.{World}
 
--- the call can be spelled, and no one has passed it on
+-- the call can be spelled
 abbrev pub CallFits : CallRec → Type 0
-CallFits call = call_field.Fits call × (call.id.hop ≡ 0)
+CallFits call = call_field.Fits call
 
 -- every call, row, directory and item that a node keeps can be spelled, its rows are in order, and a batch is no larger than 64 calls
 pub record IsNodeRanged (x : NodeState) : Type 0 where
@@ -50,32 +49,25 @@ abbrev pub cancelling : List Item → ℕ
 cancelling [] = 0
 cancelling (item ∷ items) = cancels item.message + cancelling items
 
--- how many operations have keys shut
-abbrev pub shut_count : Option Shut → ℕ
-shut_count None = 0
-shut_count (Some shut) = 1
-
 -- the counters of a node after so many events of the cluster: each event raises one of them by one, but for fetches, of which one Gather may open several.
 -- These are counted by the pending ones, of which there are no more than waiting calls, and so at most 16, one for each lane. As many are cancelled at most
--- by each operation that the node has taken, and none yet by one of which the item is still to be served. Each row is the root's, or has drawn a number
--- here, or was laid by an operation, which lays at most two, and none yet while it has the keys shut or its item is still to be served
+-- by each operation that the node has taken, and none yet by one of which the item is still to be served
 pub record IsNodeCounted (events : ℕ) (x : NodeState) : Type 0 where
   pub tickets : x.waiting.tickets ≤ events
   pub items : x.items_numbered ≤ events
   pub batches : x.batches_numbered ≤ events
   pub fetches : x.waiting.opened + x.waiting.tickets + 16 * cancelling x.items ≤ events + length x.waiting.fetches + 16 * x.last_operation
-  pub rows : length x.rows + 2 * (cancelling x.items + shut_count x.locks.shut) ≤ 1 + x.drawn + 2 * x.last_operation
-
--- no one has passed on a call that goes to a node
-abbrev pub IsFirst : Message → Actor → Type 0
-IsFirst (message.Call call) to = (n : ℕ) → to ≡ Node n → call.id.hop ≡ 0
-IsFirst other to = Unit {0}
 
 -- the bytes of an envelope are a record
 abbrev pub IsRecord : Envelope → Type 0
-IsRecord envelope = (m : Message) × Fits m × (envelope.bytes ≡ spelling m) × IsFirst m envelope.to
+IsRecord envelope = (m : Message) × Fits m × (envelope.bytes ≡ spelling m)
+
+-- a client tries a call anew only by a later table
+abbrev pub IsClientRanged : ClientState → Type 0
+IsClientRanged c = attempt_of c.current ≤ 1 + c.table.version
 
 pub record IsRanged (w : World) : Type 0 where
+  pub clients : (l : ℕ) → IsClientRanged (w.clients l)
   pub nodes : (n : ℕ) → IsNodeRanged (w.nodes n)
   pub counted : (n : ℕ) → IsNodeCounted w.events (w.nodes n)
   pub coord : IsCoordRanged w.events w.coord

@@ -4,13 +4,13 @@ use Rattle.std.specs.Prelude.{IsTrue}
 use Rattle.fal_base.specs.declared.op.Op.{Op}
 use Rattle.fal_base.specs.declared.op.Op.TheVariants as op
 use Rattle.fal_base.specs.declared.path.PathArg.TheVariants.{Good}
-use Rattle.fal_coord.specs.Walks.{is_operation, walked_paths}
+use Rattle.fal_coord.specs.Walks.{is_walking, walked_paths}
 use Rattle.fal_wire.specs.Ops.{path_and_mode, path_and_owner, two_paths, op_field}
 use Rattle.fal_story.proofs.Lists.Each.{Each}
 use Rattle.fal_story.proofs.Ranges.FateRanges.{NamesFit, path_fit}
 
--- there are one or two
-pub few_paths : (call : Op) → IsTrue (is_operation call) → (0 < length (walked_paths call)) × (length (walked_paths call) ≤ 2)
+-- there are one or two where they are walked
+pub few_paths : (call : Op) → IsTrue (is_walking call) → (0 < length (walked_paths call)) × (length (walked_paths call) ≤ 2)
 few_paths (op.Chmod (Good path) mode) is = (omega arith, omega arith)
 few_paths (op.Chown (Good path) uid gid) is = (omega arith, omega arith)
 few_paths (op.Rmdir (Good path)) is = (omega arith, omega arith)

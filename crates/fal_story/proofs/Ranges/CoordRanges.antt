@@ -1,19 +1,17 @@
 -- The coordinator keeps to the ranges.
-use Rattle.std.proofs.Common.{◌≡◌, ⊎_elim, ℕ, ◌+◌, ◌<◌, ◌≤◌, ◌^◌, ◌==◌, ◌&&◌, true, false, cond, List, [], ◌∷◌, ◌++◌, Some, None, Result, Ok, refl, sym, ap, subst, ◌∙◌, arith}
-use Rattle.std.specs.List.{range_with_len}
+use Rattle.std.proofs.Common.{◌≡◌, ⊎_elim, ℕ, ◌<◌, ◌≤◌, ◌^◌, ◌==◌, ◌&&◌, ◌||◌, Bool, true, false, cond, List, [], ◌∷◌, ◌++◌, Option, Some, None, Result, Ok, refl, sym, ap, subst, ◌∙◌, arith}
+use Rattle.std.specs.Prelude.{IsTrue, is_some}
 use Rattle.std.proofs.lemmas.Option.{same_Some}
 use Rattle.fal_base.specs.declared.call.CallRec.{CallRec}
-use Rattle.fal_base.specs.declared.event.Actor.TheVariants.{Node}
 use Rattle.fal_base.specs.declared.event.Envelope.{Envelope}
 use Rattle.fal_base.specs.declared.event.Note.{Note}
-use Rattle.fal_base.specs.declared.event.Point.{Point}
 use Rattle.fal_base.specs.declared.event.Point.TheVariants.{Here, Carried}
 use Rattle.fal_base.specs.declared.inode.Dentry.{Dentry}
 use Rattle.fal_base.specs.declared.key.Key.{Key}
-use Rattle.fal_base.specs.declared.reply.Errno.{Errno}
 use Rattle.fal_base.specs.declared.reply.Errno.TheVariants.{Ebusy, Enoent, Enotdir}
 use Rattle.fal_base.specs.declared.reply.Reply.{Reply}
 use Rattle.fal_base.specs.declared.reply.Reply.TheVariants as reply
+use Rattle.fal_base.specs.declared.row.NamedRow.{NamedRow}
 use Rattle.fal_base.specs.declared.row.Update.{Update}
 use Rattle.fal_base.specs.Marks.{is_newer, last_mark, mark_of}
 use Rattle.fal_base.proofs.Maps.{put_cases}
@@ -22,107 +20,62 @@ use Rattle.fal_coord.specs.declared.paths_walk.PathsWalk.{PathsWalk}
 use Rattle.fal_coord.specs.declared.paths_walk.PathsWalk.TheVariants.{Stopped, Lacking, Ready}
 use Rattle.fal_coord.specs.declared.stage.Operation.{Operation}
 use Rattle.fal_coord.specs.declared.stage.Stage.{Stage}
-use Rattle.fal_coord.specs.declared.stage.Stage.TheVariants.{Idle, Walk, Lock, Count, Finish}
-use Rattle.fal_coord.specs.Begin.{given_up, ask_letter, asking, locking, walked_as, walk_step, start, started, start_first, begin}
+use Rattle.fal_coord.specs.declared.stage.Stage.TheVariants.{Idle, Walk, Lock, Count, Finish, Block, Install}
+use Rattle.fal_coord.specs.Begin.{given_up, ask_letter, asking, locking, walked_as, walk_step, begun_by, start, started, start_first, begin}
 use Rattle.fal_coord.specs.Decide.{verdict_on, counting, decided, commit_note, judged_work}
 use Rattle.fal_coord.specs.Hear.{taken, take_call, learned, found_at, take_found, lock_heard, take_locked, count_heard, take_counted, finish_at, take_done, take_message, take_read, heard}
 use Rattle.fal_coord.specs.Judged as judged
 use Rattle.fal_coord.specs.Judged.{Judged, counted_of}
 use Rattle.fal_coord.specs.Nodes.{is_missing, numbers_below, to_nodes, without_node}
+use Rattle.fal_coord.specs.Place.{place_refusal}
 use Rattle.fal_coord.specs.State.{CoordState, Work, begun, at_stage}
-use Rattle.fal_coord.specs.Step.{IsInRange, coord_step, is_to_coord}
-use Rattle.fal_coord.specs.Walks.{is_busy, is_operation, last_inos, parents_of, walked_paths, walk_paths, with_ends}
+use Rattle.fal_coord.specs.Step.{coord_step, is_to_coord}
+use Rattle.fal_coord.specs.Walks.{is_busy, is_operation, is_walking, last_inos, parents_of, placing_of, walked_paths, walk_paths, with_ends}
 use Rattle.fal_dentry.specs.Walk.{without_keys}
 use Rattle.fal_wire.specs.declared.fault.WireFault.{WireFault}
-use Rattle.fal_wire.specs.declared.letter.Letter.{Letter}
+use Rattle.fal_place.specs.Placement.{Placing}
 use Rattle.fal_wire.specs.declared.message.Found.{Found}
 use Rattle.fal_wire.specs.declared.message.Found.TheVariants as found
 use Rattle.fal_wire.specs.declared.message.Message.{Message}
 use Rattle.fal_wire.specs.declared.message.Message.TheVariants as message
-use Rattle.fal_wire.specs.Letters.{letter, reply_letter}
+use Rattle.fal_wire.specs.Letters.{reply_letter}
 use Rattle.fal_wire.specs.Messages.{Fits, reading}
 use Rattle.fal_wire.specs.Names.{key_field}
-use Rattle.fal_wire.specs.Numbers.{operation_field}
 use Rattle.fal_wire.specs.Ops.{call_field}
 use Rattle.fal_wire.specs.Rows.{dentry_field, reply_field, updates_field}
 use Rattle.fal_wire.proofs.ReadingLaws.{spelled_reads}
 use Rattle.fal_story.proofs.Lists.Each.{Each, each_join}
-use Rattle.fal_story.proofs.Lists.Members.{each_all, each_map}
-use Rattle.fal_story.proofs.Ranges.Bounds.{IsFirst, IsRecord}
-use Rattle.fal_story.proofs.Ranges.CoordBounds.{IsCarried, IsCoordRanged, IsOperationRanged, IsStageRanged, RowsFit}
+use Rattle.fal_story.proofs.Ranges.Bounds.{IsRecord}
+use Rattle.fal_story.proofs.Ranges.CoordBounds.{AreGiven, IsCarried, IsCoordRanged, IsOperationRanged, IsStageRanged, IsWalked, RowsFit}
+use Rattle.fal_story.proofs.Ranges.CoordParts.{IsAt, IsBase, KeepsRanges, all_fit, answer_fits, given_up_keeps, keeps_at, keeps_same, number_fits}
 use Rattle.fal_story.proofs.Ranges.CoordPaths.{few_paths, paths_named}
 use Rattle.fal_story.proofs.Ranges.CoordVerdicts.{JudgedFits, counts_fit, verdict_fits}
 use Rattle.fal_story.proofs.Ranges.CoordWalks.{ArePathsFit, ends_are, paths_fit, without_ranged}
-use Rattle.fal_story.proofs.Ranges.FateRanges.{AreDentriesRanged}
-use Rattle.fal_story.proofs.Ranges.MessageRanges.{ask_fits, call_of_record, coord_asks, fail_fits, fine_fits, got_dentry, id_of_call, reply_fits}
+use Rattle.fal_story.proofs.Ranges.GivenNews.{StaysFew}
+use Rattle.fal_story.proofs.Ranges.MessageRanges.{ask_fits, call_of_record, coord_asks, fail_fits, fine_fits, got_dentry}
 use Rattle.fal_story.proofs.Ranges.NodeRanges.{LetterFits, letters_fit}
-use Rattle.fal_story.proofs.Ranges.OperationRecords.{commit_fits, count_fits, keys_fit, lock_fits, locked_fields, operation_fits, rows_of_updates, updates_are, updates_fit}
+use Rattle.fal_story.proofs.Ranges.OperationRecords.{commit_fits, count_fits, keys_fit, lock_fits, locked_fields, rows_of_updates, updates_are, updates_fit}
+use Rattle.fal_story.proofs.Ranges.PlaceRanges.{blocked_keeps, installed_keeps, placing_fits, placing_keeps}
+use Rattle.fal_story.proofs.Ranges.PlaceRecords.{ascend_apart, blocked_fields, rows_are}
 use Rattle.fal_story.proofs.Ranges.RowRanges.{op_of_call}
-
--- the step after so many events is within the ranges, and leaves the coordinator so
-pub record KeepsRanges (events : ℕ) (k : Work) : Type 0 where
-  pub within : IsInRange k
-  pub letters : Each LetterFits k.sent
-  pub ranged : IsCoordRanged (events + 1) k.coord
-
--- what is known of the coordinator while a step of it is under way, but for its stage
-record IsBase (events : ℕ) (c : CoordState) : Type 0 where
-  few : events < 2 ^ 63
-  waiting : Each IsCarried c.waiting
-  replica : AreDentriesRanged c.replica
-  asked : c.asked ≤ events
-  operation : c.operation ≤ 10001
-
--- its stage is so, too
-record IsAt (events : ℕ) (c : CoordState) : Type 0 where
-  base : IsBase events c
-  stage : IsStageRanged c.operation c.stage
-
--- ---- parts
-
-keeps_at : (events : ℕ) (c : CoordState) (s : Stage) (sent : List Letter) (notes : List Note) → IsBase events c → IsStageRanged c.operation s → Each LetterFits sent
-    → KeepsRanges events (record { coord = at_stage c s; sent = sent; notes = notes })
-keeps_at events c s sent notes base stage letters =
-    let few = base.few in
-    let asked = base.asked in
-    let operation = base.operation in
-    record {
-      within = record { records = letters_fit sent letters; operation = omega arith; asked = omega arith };
-      letters = letters;
-      ranged = record { waiting = base.waiting; replica = base.replica; stage = stage; asked = omega arith };
-    }
-
-keeps_same : (events : ℕ) (c : CoordState) → IsAt events c → KeepsRanges events (begun c)
-keeps_same events c at = keeps_at events c c.stage [] [] at.base at.stage tt
-
-number_fits : (events : ℕ) (c : CoordState) → IsBase events c → 0 < c.operation → operation_field.Fits c.operation
-number_fits events c base some = let few = base.operation in operation_fits c.operation some (omega arith)
-
-all_fit : (nodes : ℕ) (m : Message) → Fits m → ((n : ℕ) → IsFirst m (Node n)) → Each LetterFits (to_nodes nodes m)
-all_fit nodes m fits first = each_map LetterFits (λ node. letter (Node node) (Here 0) m) (range_with_len 0 nodes) (each_all _ (range_with_len 0 nodes) (λ node. (fits, first node)))
-
-answer_fits : (call : CallRec) (point : Point) (answer : Reply) → call_field.Fits call → reply_field.Fits answer → LetterFits (reply_letter call point answer)
-answer_fits call point answer of_call of_answer = (reply_fits call.id answer (id_of_call call of_call) of_answer, tt)
-
-given_up_keeps : (events : ℕ) (c : CoordState) (call : CallRec) (point : Point) (errno : Errno) → IsBase events c → call_field.Fits call → KeepsRanges events (given_up c call point errno)
-given_up_keeps events c call point errno base fits = keeps_at events c Idle (reply_letter call point (reply.Fail errno) ∷ []) [] base tt (answer_fits call point (reply.Fail errno) fits (fail_fits errno), tt)
 
 -- ---- a walk
 
-asking_keeps : (events : ℕ) (c : CoordState) (call : CallRec) (key : Key) → IsBase events c → 0 < c.operation → IsCarried call → key_field.Fits key → KeepsRanges events (asking c call key)
+asking_keeps : (events : ℕ) (c : CoordState) (call : CallRec) (key : Key) → IsBase events c → 0 < c.operation → IsWalked call → key_field.Fits key → KeepsRanges events (asking c call key)
 unfolding asking
 asking_keeps events c call key base some carried fits =
     let few = base.few in
     let asked = base.asked in
     let operation = base.operation in
-    let letters : Each LetterFits (ask_letter c key ∷ []) = ((ask_fits 255 c.asked key coord_asks (omega arith) fits, tt), tt) in
+    let version = base.version in
+    let letters : Each LetterFits (ask_letter c key ∷ []) = (ask_fits 255 c.asked key coord_asks (omega arith) fits, tt) in
     record {
-      within = record { records = letters_fit (ask_letter c key ∷ []) letters; operation = omega arith; asked = omega arith };
+      within = record { records = letters_fit (ask_letter c key ∷ []) letters; operation = omega arith; asked = omega arith; version = omega arith };
       letters = letters;
       ranged = record { waiting = base.waiting; replica = base.replica; stage = (some, carried); asked = omega arith };
     }
 
-walked_keeps : (events : ℕ) (c : CoordState) (call : CallRec) (end : PathsWalk) → IsBase events c → 0 < c.operation → IsCarried call → ArePathsFit (walked_paths call.op) end → KeepsRanges events (walked_as c call end)
+walked_keeps : (events : ℕ) (c : CoordState) (call : CallRec) (end : PathsWalk) → IsBase events c → 0 < c.operation → IsWalked call → ArePathsFit (walked_paths call.op) end → KeepsRanges events (walked_as c call end)
 unfolding locking
 walked_keeps events c call (Stopped errno) base some carried end = given_up_keeps events c call (Here 0) errno base carried.0
 walked_keeps events c call (Lacking key) base some carried end = asking_keeps events c call key base some carried end
@@ -133,13 +86,27 @@ walked_keeps events c call (Ready walks) base some carried end =
     let lock = message.Lock c.operation keys in
     let operation : Operation = record { call = call; keys = keys; walks = walks } in
     keeps_at events c (Lock operation (numbers_below c.table.nodes) []) (to_nodes c.table.nodes lock) [] base (some, record { call = carried.0; ends = end }, tt)
-    (all_fit c.table.nodes lock (lock_fits c.operation keys (number_fits events c base some) (keys_fit keys are.some are.few are.fit)) (λ n. tt))
+    (all_fit c.table.nodes lock (lock_fits c.operation keys (number_fits events c base some) (keys_fit keys are.some are.few are.fit)))
 
-walk_keeps : (events : ℕ) (c : CoordState) (call : CallRec) → IsBase events c → 0 < c.operation → IsCarried call → KeepsRanges events (walk_step c call)
+walk_keeps : (events : ℕ) (c : CoordState) (call : CallRec) → IsBase events c → 0 < c.operation → IsWalked call → KeepsRanges events (walk_step c call)
 unfolding walk_step
 walk_keeps events c call base some carried =
     walked_keeps events c call (walk_paths c.replica call.cred (walked_paths call.op)) base some carried
     (paths_fit c.replica call.cred (walked_paths call.op) base.replica (paths_named call.op (op_of_call call carried.0)))
+
+begun_keeps : (events : ℕ) (c : CoordState) (call : CallRec) → IsBase events c → 0 < c.operation → IsCarried call → KeepsRanges events (begun_by c call (placing_of call.op))
+begun_keeps events c call base some carried =
+    elim (placing_of call.op) as (λ (p : Option Placing). placing_of call.op ≡ p → KeepsRanges events (begun_by c call p)) [
+      | None ↦ λ none. walk_keeps events c call base some (carried.0, walks none)
+      | Some placing ↦ λ is. placing_keeps events c call placing (place_refusal c.table call.cred placing) base some carried.0 (placing_fits call placing is carried.0).0
+    ] refl
+  where
+    or_false : (b : Bool) → IsTrue (b || false) → IsTrue b
+    or_false true is = refl
+    or_false false is = is
+
+    walks : placing_of call.op ≡ None → IsTrue (is_walking call.op)
+    walks none = or_false (is_walking call.op) (sym (ap (λ p. is_walking call.op || is_some p) none) ∙ carried.1)
 
 -- ---- an operation begins
 
@@ -149,12 +116,12 @@ first_keeps events c [] k at few fits is = absurd (cc)
 first_keeps events c (call ∷ calls) k at few fits is =
     let base = at.base in
     let next = started c calls in
-    let begins : IsBase events next = record { few = base.few; waiting = fits.1; replica = base.replica; asked = base.asked; operation = omega arith } in
+    let begins : IsBase events next = record { few = base.few; waiting = fits.1; replica = base.replica; asked = base.asked; operation = omega arith; version = base.version } in
     let some : 0 < next.operation = omega arith in
     subst (KeepsRanges events) (same_Some (start next call) k is)
-    (elim (is_busy call.op) as (λ b. KeepsRanges events (cond b (given_up next call (Here 0) Ebusy) (walk_step next call))) [
+    (elim (is_busy call.op) as (λ b. KeepsRanges events (cond b (given_up next call (Here 0) Ebusy) (begun_by next call (placing_of call.op)))) [
       | true ↦ given_up_keeps events next call (Here 0) Ebusy begins fits.0.0
-      | false ↦ walk_keeps events next call begins some fits.0
+      | false ↦ begun_keeps events next call begins some fits.0
     ])
 
 begin_keeps : (events : ℕ) (c : CoordState) (s : Stage) (k : Work) → IsAt events c → c.operation ≤ 10000 → begin c s ≡ Some k → KeepsRanges events k
@@ -163,6 +130,8 @@ begin_keeps events c (Walk call number key) k at few is = absurd (cc)
 begin_keeps events c (Lock operation missing rows) k at few is = absurd (cc)
 begin_keeps events c (Count operation rows dir updates missing counts) k at few is = absurd (cc)
 begin_keeps events c (Finish keys updates missing) k at few is = absurd (cc)
+begin_keeps events c (Block call missing rows) k at few is = absurd (cc)
+begin_keeps events c (Install call missing) k at few is = absurd (cc)
 
 -- ---- a call is heard
 
@@ -174,7 +143,7 @@ call_keeps events c call at fits =
     elim (is_operation call.op) as (λ b. is_operation call.op ≡ b → KeepsRanges events (begun (cond (b && newer) (taken c call) c))) [
       | true ↦ λ is. elim newer as (λ b. KeepsRanges events (begun (cond b (taken c call) c))) [
         | true ↦ keeps_same events (taken c call) (record {
-          base = record { few = base.few; waiting = each_join IsCarried c.waiting (call ∷ []) base.waiting ((fits, is), tt); replica = base.replica; asked = base.asked; operation = base.operation };
+          base = record { few = base.few; waiting = each_join IsCarried c.waiting (call ∷ []) base.waiting ((fits, is), tt); replica = base.replica; asked = base.asked; operation = base.operation; version = base.version };
           stage = at.stage;
         })
         | false ↦ keeps_same events c at
@@ -195,13 +164,14 @@ learned_base events c key dentry base fits = record {
   replica = λ q d is. ⊎_elim (λ e. subst dentry_field.Fits (same_dentry dentry d (sym e.1 ∙ is)) fits) (λ e. base.replica q d (sym e.1 ∙ is)) (put_cases q key dentry c.replica);
   asked = base.asked;
   operation = base.operation;
+  version = base.version;
 }
 
 operation_same : (c : CoordState) (key : Key) (dentry : Dentry) → (learned c key dentry).operation ≡ c.operation
 unfolding learned
 operation_same c key dentry = refl
 
-found_keeps : (events : ℕ) (c : CoordState) (point number : ℕ) (call : CallRec) (key : Key) (what : Found) → IsBase events c → 0 < c.operation → IsCarried call → Fits (message.FetchGot number key what)
+found_keeps : (events : ℕ) (c : CoordState) (point number : ℕ) (call : CallRec) (key : Key) (what : Found) → IsBase events c → 0 < c.operation → IsWalked call → Fits (message.FetchGot number key what)
     → KeepsRanges events (found_at c point call key what)
 found_keeps events c point number call key (found.Dir dentry) base some carried fits =
     let same = operation_same c key dentry in
@@ -229,9 +199,9 @@ decided_keeps events c operation updates notes answer base some ranged fits of_a
     let dropped : CoordState = record c { replica = without_keys c.replica operation.keys } in
     let sent = to_nodes nodes commit ++ reply_letter operation.call (Here 0) answer ∷ [] in
     let letters = each_join LetterFits (to_nodes nodes commit) (reply_letter operation.call (Here 0) answer ∷ [])
-    (all_fit nodes commit (commit_fits c.operation updates (number_fits events c base some) fits) (λ n. tt)) (answer_fits operation.call (Here 0) answer ranged.call of_answer, tt) in
+    (all_fit nodes commit (commit_fits c.operation updates (number_fits events c base some) fits)) (answer_fits operation.call (Here 0) answer ranged.call of_answer, tt) in
     keeps_at events dropped (Finish operation.keys updates (numbers_below nodes)) sent notes
-    (record { few = base.few; waiting = base.waiting; replica = without_ranged c.replica operation.keys base.replica; asked = base.asked; operation = base.operation }) tt letters
+    (record { few = base.few; waiting = base.waiting; replica = without_ranged c.replica operation.keys base.replica; asked = base.asked; operation = base.operation; version = base.version }) fits letters
 
 counting_keeps : (events : ℕ) (c : CoordState) (operation : Operation) (rows : List Update) (dir : ℕ) (updates : List Update) → IsBase events c → 0 < c.operation → IsOperationRanged operation
     → dir < 2 ^ 64 → updates_field.Fits updates → KeepsRanges events (counting c operation rows dir updates)
@@ -240,7 +210,7 @@ counting_keeps events c operation rows dir updates base some ranged below fits =
     let nodes = c.table.nodes in
     let count = message.Count c.operation dir in
     keeps_at events c (Count operation rows dir updates (numbers_below nodes) []) (to_nodes nodes count) [] base (some, ranged, fits)
-    (all_fit nodes count (count_fits c.operation dir (number_fits events c base some) below) (λ n. tt))
+    (all_fit nodes count (count_fits c.operation dir (number_fits events c base some) below))
 
 judged_keeps : (events : ℕ) (c : CoordState) (operation : Operation) (rows : List Update) (is : Judged) → IsBase events c → 0 < c.operation → IsOperationRanged operation → JudgedFits is
     → KeepsRanges events (judged_work c operation rows is)
@@ -281,46 +251,54 @@ counted_keeps events c number node count (Count operation rows dir updates missi
     ]
 counted_keeps events c number node count other at stage = keeps_same events c at
 
-finish_ranged : (number : ℕ) (keys : List Key) (updates : List Update) (missing : List ℕ) → IsStageRanged number (finish_at keys updates missing)
-finish_ranged number keys updates [] = tt
-finish_ranged number keys updates (node ∷ missing) = tt
+finish_ranged : (number : ℕ) (keys : List Key) (updates : List Update) (missing : List ℕ) → updates_field.Fits updates → IsStageRanged number (finish_at keys updates missing)
+finish_ranged number keys updates [] fits = tt
+finish_ranged number keys updates (node ∷ missing) fits = fits
 
-done_keeps : (events : ℕ) (c : CoordState) (number node : ℕ) (s : Stage) → IsAt events c → KeepsRanges events (begun (take_done c number node s))
-done_keeps events c number node (Finish keys updates missing) at =
+done_keeps : (events : ℕ) (c : CoordState) (number node : ℕ) (s : Stage) → IsAt events c → IsStageRanged c.operation s → KeepsRanges events (begun (take_done c number node s))
+done_keeps events c number node (Finish keys updates missing) at stage =
     let rest = without_node node missing in
     elim ((number == c.operation) && is_missing node missing) as (λ b. KeepsRanges events (begun (cond b (at_stage c (finish_at keys updates rest)) c))) [
-      | true ↦ keeps_at events c (finish_at keys updates rest) [] [] at.base (finish_ranged c.operation keys updates rest) tt
+      | true ↦ keeps_at events c (finish_at keys updates rest) [] [] at.base (finish_ranged c.operation keys updates rest stage) tt
       | false ↦ keeps_same events c at
     ]
-done_keeps events c number node other at = keeps_same events c at
+done_keeps events c number node other at stage = keeps_same events c at
 
 -- ---- any record
 
-message_keeps : (events : ℕ) (c : CoordState) (point : ℕ) (m : Message) → IsAt events c → Fits m → KeepsRanges events (take_message c point m)
-message_keeps events c point (message.Call call) at fits = call_keeps events c call at (call_of_record call fits)
-message_keeps events c point (message.FetchGot number key what) at fits = got_keeps events c point number key what c.stage at at.stage fits
-message_keeps events c point (message.Locked number node rows) at fits =
-    locked_keeps events c number node rows c.stage at at.stage (rows_of_updates rows (updates_are rows (locked_fields number node rows fits.fields)).fit)
-message_keeps events c point (message.Counted number node count) at fits = counted_keeps events c number node count c.stage at at.stage
-message_keeps events c point (message.Done number node) at fits = done_keeps events c number node c.stage at
-message_keeps events c point other at fits = keeps_same events c at
+-- where rows are given away, those that came stay few
+abbrev pub AreNews : CoordState → Message → Type 0
+AreNews c m = (number node : ℕ) (told : List NamedRow) → m ≡ message.Blocked number node told → AreGiven told → number ≡ c.operation → StaysFew node told c.stage
 
-at_of : (events : ℕ) (c : CoordState) → events < 2 ^ 63 → c.operation ≤ 10000 → IsCoordRanged events c → IsAt events c
-at_of events c few operation ranged = record {
-  base = record { few = few; waiting = ranged.waiting; replica = ranged.replica; asked = ranged.asked; operation = omega arith };
+message_keeps : (events : ℕ) (c : CoordState) (point : ℕ) (m : Message) → IsAt events c → Fits m → AreNews c m → KeepsRanges events (take_message c point m)
+message_keeps events c point (message.Call call) at fits news = call_keeps events c call at (call_of_record call fits)
+message_keeps events c point (message.FetchGot number key what) at fits news = got_keeps events c point number key what c.stage at at.stage fits
+message_keeps events c point (message.Locked number node rows) at fits news =
+    locked_keeps events c number node rows c.stage at at.stage (rows_of_updates rows (updates_are rows (locked_fields number node rows fits.fields)).fit)
+message_keeps events c point (message.Counted number node count) at fits news = counted_keeps events c number node count c.stage at at.stage
+message_keeps events c point (message.Done number node) at fits news = done_keeps events c number node c.stage at at.stage
+message_keeps events c point (message.Blocked number node rows) at fits news =
+    let are = rows_are rows (blocked_fields number node rows fits.fields) in
+    blocked_keeps events c number node rows c.stage at at.stage are.fit (news number node rows refl (ascend_apart rows are.fit are.ascend))
+message_keeps events c point (message.Installed number node) at fits news = installed_keeps events c number node c.stage at
+message_keeps events c point other at fits news = keeps_same events c at
+
+at_of : (events : ℕ) (c : CoordState) → events < 2 ^ 63 → c.operation ≤ 10000 → c.table.version ≤ 10000 → IsCoordRanged events c → IsAt events c
+at_of events c few operation version ranged = record {
+  base = record { few = few; waiting = ranged.waiting; replica = ranged.replica; asked = ranged.asked; operation = omega arith; version = version };
   stage = ranged.stage;
 }
 
-pub hear_keeps : (events : ℕ) (c : CoordState) (e : Envelope) (k : Work) → events < 2 ^ 63 → c.operation ≤ 10000 → IsCoordRanged events c → IsRecord e → coord_step c (Hear e) ≡ Some k → KeepsRanges events k
+pub hear_keeps : (events : ℕ) (c : CoordState) (e : Envelope) (k : Work) → events < 2 ^ 63 → c.operation ≤ 10000 → c.table.version ≤ 10000 → IsCoordRanged events c → IsRecord e → ((m : Message) → reading e.bytes ≡ Ok m → AreNews c m) → coord_step c (Hear e) ≡ Some k → KeepsRanges events k
 unfolding coord_step heard
-hear_keeps events c e k few operation ranged sent is =
+hear_keeps events c e k few operation version ranged sent news is =
     let read : reading e.bytes ≡ Ok sent.0 = ap reading sent.2 ∙ spelled_reads sent.0 sent.1 in
     elim (is_to_coord e.to) as (λ b. cond b (Some (heard c e)) None ≡ Some k → KeepsRanges events k) [
       | true ↦ λ z. subst (KeepsRanges events) (same_Some (heard c e) k z)
-          (subst (λ (r : Result Message WireFault). KeepsRanges events (take_read c e.point r)) (sym read) (message_keeps events c e.point sent.0 (at_of events c few operation ranged) sent.1))
+          (subst (λ (r : Result Message WireFault). KeepsRanges events (take_read c e.point r)) (sym read) (message_keeps events c e.point sent.0 (at_of events c few operation version ranged) sent.1 (news sent.0 read)))
       | false ↦ λ z. absurd (cc)
     ] is
 
-pub start_keeps : (events : ℕ) (c : CoordState) (k : Work) → events < 2 ^ 63 → c.operation ≤ 10000 → IsCoordRanged events c → coord_step c Start ≡ Some k → KeepsRanges events k
+pub start_keeps : (events : ℕ) (c : CoordState) (k : Work) → events < 2 ^ 63 → c.operation ≤ 10000 → c.table.version ≤ 10000 → IsCoordRanged events c → coord_step c Start ≡ Some k → KeepsRanges events k
 unfolding coord_step
-start_keeps events c k few operation ranged is = begin_keeps events c c.stage k (at_of events c few operation ranged) operation is
+start_keeps events c k few operation version ranged is = begin_keeps events c c.stage k (at_of events c few operation version ranged) operation is

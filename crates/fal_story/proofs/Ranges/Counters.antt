@@ -9,10 +9,7 @@ use Rattle.fal_batch.proofs.Truth.{both_first, both_second}
 use Rattle.fal_batch.specs.declared.parts.Wanted.{Wanted}
 use Rattle.fal_node.specs.Deliver.{without_calls}
 use Rattle.fal_node.specs.declared.item.Item.{Item}
-use Rattle.fal_locks.specs.declared.holder.Shut.{Shut}
-use Rattle.fal_locks.specs.Locks.{unless_of}
 use Rattle.fal_node.specs.Gather.{with_fetches}
-use Rattle.fal_node.specs.State.{is_of}
 use Rattle.fal_wait.specs.declared.pending_fetch.PendingFetch.{PendingFetch}
 use Rattle.fal_wait.specs.declared.waiting_call.WaitingCall.{WaitingCall}
 use Rattle.fal_wait.specs.Lists.{without_first}
@@ -20,8 +17,8 @@ use Rattle.fal_wait.specs.Waiting.{are_rising, WaitList, waits_on, fetch_of, is_
 use Rattle.fal_story.proofs.Events.Shows.{IsTidy, IsTied}
 use Rattle.fal_story.proofs.Lists.Each.{Each, Apart, each_weaker}
 use Rattle.fal_story.proofs.Lists.Members.{IsIn, each_all, each_of_all}
-use Rattle.fal_story.proofs.Ranges.Bounds.{cancels, cancelling, shut_count}
-use Rattle.fal_story.proofs.Ranges.Counts.{Differ, no_more}
+use Rattle.fal_story.proofs.Ranges.Bounds.{cancels, cancelling}
+use Rattle.fal_story.proofs.Ranges.NoMore.{Differ, no_more}
 
 -- ---- no more fetches are pending than calls wait, and no more of these than tickets were given
 
@@ -145,8 +142,3 @@ cancelling_found test (x ∷ xs) item is =
       | true ↦ λ e. let same : cancels x.message ≡ cancels item.message = ap (λ (i : Item). cancels i.message) (same_Some x item e) in omega arith
       | false ↦ λ e. let h = cancelling_found test xs item e in omega arith
     ] is
-
--- the operation that has the keys shut, and no more once they are opened
-pub opened_count : (shut : Option Shut) (operation : ℕ) → is_of shut operation ≡ true → (shut_count shut ≡ 1) × (shut_count (unless_of operation shut) ≡ 0)
-opened_count None operation is = absurd (cc)
-opened_count (Some shut) operation is = (refl, ap (λ b. shut_count (cond b None (Some shut))) is)

@@ -1,5 +1,5 @@
 -- A run has no more commits than the cluster has calls, and a node no more waiting calls than there are lanes.
-use Rattle.std.proofs.Common.{◌≡◌, ◌≢◌, inl, inr, ⊎_elim, ℕ, zero, suc, ◌+◌, ◌<◌, ◌≤◌, false, List, [], ◌∷◌, ◌++◌, length, Option, Some, None, refl, sym, ap, ◌∙◌, subst, arith}
+use Rattle.std.proofs.Common.{◌≡◌, ◌≢◌, inl, inr, ⊎_elim, ℕ, zero, suc, ◌+◌, ◌<◌, ◌≤◌, false, List, [], ◌∷◌, ◌++◌, length, Option, Some, None, refl, sym, ap, subst, arith}
 use Rattle.std.specs.Prelude.{slice_get, sum_by, ◌==◌, IsTrue}
 use Rattle.std.proofs.lemmas.Bool.Decides.{nat_tests}
 use Rattle.std.proofs.lemmas.List.{length-append}
@@ -17,42 +17,15 @@ use Rattle.fal_place.specs.Placement.{Placement}
 use Rattle.fal_wire.specs.declared.message.Message.{Message}
 use Rattle.fal_story.proofs.Drain.Actors.{waiters_there}
 use Rattle.fal_story.proofs.Events.Doing.{work_of}
-use Rattle.fal_story.proofs.Events.Shows.{Ghost, Shows, lane_of}
+use Rattle.fal_story.proofs.Events.Shows.{Ghost, Shows, lane_of, before_in}
 use Rattle.fal_story.proofs.Families.Operation.{Stands}
-use Rattle.fal_story.proofs.Lists.Each.{Each, each_weaker, each_both, each_join}
+use Rattle.fal_story.proofs.Lists.Each.{Each, each_weaker, each_join}
 use Rattle.fal_story.proofs.Lists.Members.{IsIn, at_in, each_by, in_front}
 use Rattle.fal_story.proofs.Lists.Grown.{tells}
+use Rattle.fal_story.proofs.Ranges.NoMore.{Differ, no_more}
 use Rattle.fal_story.proofs.View.{Work, Rests, Walks, Locks, Counts, Ends, Blocks, Lands}
 use Rattle.fal_story.specs.Clusters.{IsCluster, is_lane}
 use Rattle.fal_story.specs.World.{World}
-
--- ---- items that differ, each of which stands in a list, are no more than the list has
-
--- what is left of a list without one of its items
-record IsLeft (A : Type 0) (x : A) (ys : List A) : Type 0 where
-  rest : List A
-  shorter : length ys ≡ suc (length rest)
-  others : (y : A) → y ≢ x → IsIn y ys → IsIn y rest
-
-taken : {A : Type 0} (x : A) (ys : List A) → IsIn x ys → IsLeft A x ys
-taken x [] m = absurd m
-taken x (z ∷ ys) (inl e) = record { rest = ys; shorter = refl; others = λ y ne m. ⊎_elim (λ same. absurd (ne (sym same ∙ e))) (λ r. r) m }
-taken x (z ∷ ys) (inr m) =
-    let t = taken x ys m in
-    record { rest = z ∷ t.rest; shorter = ap suc t.shorter; others = λ y ne n. ⊎_elim (λ same. inl same) (λ r. inr (t.others y ne r)) n }
-
--- no two are the same in this
-abbrev pub Differ : {A B : Type 0} → (A → B) → List A → Type 0
-Differ f [] = Unit {0}
-Differ f (x ∷ xs) = Each (λ y. f y ≢ f x) xs × Differ f xs
-
-pub no_more : {A B : Type 0} (f : A → B) (xs : List A) (ys : List B) → Differ f xs → Each (λ x. IsIn (f x) ys) xs → length xs ≤ length ys
-no_more f [] ys apart among = omega arith
-no_more f (x ∷ xs) ys apart among =
-    let t = taken (f x) ys among.0 in
-    let shorter = t.shorter in
-    let rest = no_more f xs t.rest apart.1 (each_both _ _ _ xs (λ y ne m. t.others (f y) ne m) apart.0 among.1) in
-    omega arith
 
 -- ---- the calls of a cluster, by lane and number
 
@@ -60,7 +33,7 @@ calls_from : ℕ → ℕ → List Call → List (ℕ × ℕ)
 calls_from lane seq [] = []
 calls_from lane seq (call ∷ calls) = (lane, seq) ∷ calls_from lane (suc seq) calls
 
-lanes_from : ℕ → List (List Call) → List (ℕ × ℕ)
+pub lanes_from : ℕ → List (List Call) → List (ℕ × ℕ)
 lanes_from lane [] = []
 lanes_from lane (calls ∷ lanes) = calls_from lane 1 calls ++ lanes_from (suc lane) lanes
 
@@ -69,7 +42,7 @@ unfolding calls_from
 calls_length lane seq [] = refl
 calls_length lane seq (call ∷ calls) = ap suc (calls_length lane (suc seq) calls)
 
-lanes_length : (lane : ℕ) (lanes : List (List Call)) → length (lanes_from lane lanes) ≡ sum_by (λ (calls : List Call). length calls) lanes
+pub lanes_length : (lane : ℕ) (lanes : List (List Call)) → length (lanes_from lane lanes) ≡ sum_by (λ (calls : List Call). length calls) lanes
 unfolding lanes_from
 lanes_length lane [] = refl
 lanes_length lane (calls ∷ lanes) =
@@ -104,7 +77,7 @@ among_lanes lane (calls ∷ lanes) (suc k) seq call is =
     let here : suc lane + k ≡ lane + suc k = omega arith in
     subst (λ l. IsIn (l, seq) (calls_from lane 1 calls ++ lanes_from (suc lane) lanes)) here (in_back (calls_from lane 1 calls) _ _ (among_lanes (suc lane) lanes k seq call is))
 
-call_in : (config : Config) (lane seq : ℕ) (call : Call) → call_of config lane seq ≡ Some call → IsIn (lane, seq) (lanes_from 1 config.lanes)
+pub call_in : (config : Config) (lane seq : ℕ) (call : Call) → call_of config lane seq ≡ Some call → IsIn (lane, seq) (lanes_from 1 config.lanes)
 call_in config zero seq call is = absurd (cc)
 call_in config (suc k) seq call is = let here : 1 + k ≡ suc k = omega arith in subst (λ l. IsIn (l, seq) (lanes_from 1 config.lanes)) here (among_lanes 1 config.lanes k seq call is)
 
@@ -227,7 +200,7 @@ stands_last table operation (Ends keys updates missing) n shut queued last due h
 pub few_taken : (config : Config) (w : World) (n : ℕ) (h : Ghost) → IsCluster config → n < config.nodes → Shows config w h → (w.nodes n).last_operation ≤ 10000
 few_taken config w n h cluster there shows =
     let few = few_operations config w h cluster shows in
-    let last : (w.nodes n).last_operation ≤ w.coord.operation = stands_last w.coord.table w.coord.operation (work_of h.before w.coord.stage) n (w.nodes n).locks.shut (h.queued n) (w.nodes n).last_operation (h.due n) (shows.good.operation.stands n there) in
+    let last : (w.nodes n).last_operation ≤ w.coord.operation = stands_last w.coord.table w.coord.operation (work_of (before_in config h) w.coord.stage) n (w.nodes n).locks.shut (h.queued n) (w.nodes n).last_operation (h.due n) (shows.good.operation.stands n there) in
     omega arith
 
 -- ---- the lanes of a cluster

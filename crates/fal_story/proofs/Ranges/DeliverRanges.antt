@@ -1,11 +1,10 @@
 -- A node to which a record comes keeps to the ranges.
-use Rattle.std.proofs.Common.{◌≡◌, ⊎_elim, ℕ, ◌+◌, ◌<◌, nat_lt, true, false, cond, List, [], ◌∷◌, length, Option, Some, None, Result, Ok, refl, sym, ap, subst, ◌∙◌, arith}
+use Rattle.std.proofs.Common.{◌≡◌, ⊎_elim, ℕ, ◌+◌, ◌<◌, ◌≤◌, nat_lt, true, false, cond, List, [], ◌∷◌, length, Option, Some, None, Result, Ok, refl, sym, ap, subst, ◌∙◌, arith}
 use Rattle.std.specs.Prelude.{is_some}
 use Rattle.std.proofs.lemmas.Bool.Decides.{nat_tests}
 use Rattle.std.proofs.lemmas.Option.{same_Some}
 use Rattle.fal_base.specs.declared.call.CallRec.{CallRec}
-use Rattle.fal_base.specs.declared.event.Actor.{Actor}
-use Rattle.fal_base.specs.declared.event.Actor.TheVariants.{Client, Node, Coord}
+use Rattle.fal_base.specs.declared.event.Actor.TheVariants.{Coord}
 use Rattle.fal_base.specs.declared.event.Envelope.{Envelope}
 use Rattle.fal_base.specs.declared.event.Point.TheVariants.{Here}
 use Rattle.fal_base.specs.declared.inode.Dentry.{Dentry}
@@ -13,16 +12,21 @@ use Rattle.fal_base.specs.declared.key.Key.{Key}
 use Rattle.fal_base.specs.declared.reply.Errno.{Errno}
 use Rattle.fal_base.specs.declared.reply.Errno.TheVariants.{Enoent, Enotdir}
 use Rattle.fal_base.specs.declared.reply.Reply.TheVariants.{Fail}
+use Rattle.fal_base.specs.declared.row.NamedRow.{NamedRow}
 use Rattle.fal_base.specs.declared.row.Update.{Update}
+use Rattle.fal_base.specs.declared.rule.Rule.{Rule}
 use Rattle.fal_base.specs.Tree.{names_under}
+use Rattle.fal_base.specs.Updates.{laid}
 use Rattle.fal_base.proofs.Maps.{put_cases}
 use Rattle.fal_duty.specs.Duties.{owned, count_told}
 use Rattle.fal_exec.specs.RowCall.{row_names}
+use Rattle.fal_inode.specs.Named.{puts}
 use Rattle.fal_node.specs.declared.event.NodeEvent.TheVariants.{Deliver}
-use Rattle.fal_node.specs.Deliver.{admitted, take_call, learned, dismissed, refusal, refusals, refuse, settle, settle_pending, with_operation, take_operation, take_count, reopened, take_commit, take_message, take_read, delivered}
+use Rattle.fal_node.specs.Deliver.{admitted, take_call, learned, dismissed, refusal, refusals, refuse, settle, settle_pending, with_operation, take_operation, take_count, reopened, take_commit, installed, table_with, name_blocked, install_named, take_install, take_message, take_read, delivered}
 use Rattle.fal_node.specs.Letters.{Work, begun, is_asker}
 use Rattle.fal_node.specs.State.{NodeState, with_item, is_of}
 use Rattle.fal_node.specs.Step.{is_to_node, node_step, only_if}
+use Rattle.fal_place.specs.Placement.{is_within}
 use Rattle.fal_wait.specs.declared.pending_fetch.PendingFetch.{PendingFetch}
 use Rattle.fal_wait.specs.Waiting.{WaitList, call_with_ticket, fetch_of, after_settle}
 use Rattle.fal_wire.specs.declared.fault.WireFault.{WireFault}
@@ -36,13 +40,14 @@ use Rattle.fal_wire.specs.Messages.{Fits, reading}
 use Rattle.fal_wire.specs.Rows.{dentry_field}
 use Rattle.fal_wire.proofs.ReadingLaws.{spelled_reads}
 use Rattle.fal_story.proofs.Lists.Each.{Each, each_join}
-use Rattle.fal_story.proofs.Lists.Members.{same_number}
-use Rattle.fal_story.proofs.Ranges.Bounds.{CallFits, IsNodeCounted, IsRecord, IsFirst, cancels}
-use Rattle.fal_story.proofs.Ranges.Counters.{withouts_same, admit_count, settle_count, cancelling_join, opened_count}
+use Rattle.fal_story.proofs.Ranges.Bounds.{CallFits, IsNodeCounted, IsRecord, cancels}
+use Rattle.fal_story.proofs.Ranges.CoordBounds.{RowsFit}
+use Rattle.fal_story.proofs.Ranges.Counters.{withouts_same, admit_count, settle_count, cancelling_join}
 use Rattle.fal_story.proofs.Ranges.MessageRanges.{reply_fits, call_of_record, got_dentry, id_of_call, fail_fits}
 use Rattle.fal_story.proofs.Ranges.NodeRanges.{IsStart, KeepsRanges, LetterFits, within, counted_more, keeps_same}
 use Rattle.fal_story.proofs.Ranges.OperationRecords.{commit_fields, count_fields, counted_fits, done_fits, node_fits, rows_of_updates, updates_are}
-use Rattle.fal_story.proofs.Ranges.RowCounts.{few_names, laid_most, laid_ranged, laid_sorted, owned_fit, owned_most}
+use Rattle.fal_story.proofs.Ranges.PlaceRecords.{install_fields, installed_fits, puts_fit, rows_are}
+use Rattle.fal_story.proofs.Ranges.RowCounts.{few_names, laid_ranged, laid_sorted, owned_fit}
 use Rattle.fal_story.proofs.Ranges.WaitRanges.{WaitersFit, fit_admit, fit_withouts, fit_settle, waiter_of}
 
 -- ---- a call
@@ -63,7 +68,7 @@ admitted_keeps events x call start fits =
     let count_tickets = count.tickets in
     let count_opened = count.opened in
     let count_fetches = ap length count.fetches in
-    let now : IsNodeCounted (events + 1) (admitted x call) = record { tickets = omega arith; items = omega arith; batches = omega arith; fetches = omega arith; rows = more.rows } in
+    let now : IsNodeCounted (events + 1) (admitted x call) = record { tickets = omega arith; items = omega arith; batches = omega arith; fetches = omega arith } in
     record {
       within = within events (begun (admitted x call)) few now tt (omega arith) start.number (omega arith) (omega arith);
       letters = tt;
@@ -89,9 +94,8 @@ ask_keeps events x m start fits none =
     let before = start.counted in
     let items = before.items in
     let fetches = more.fetches in
-    let rows = more.rows in
     let cancelled = cancelling_join x.items (record { number = x.items_numbered; message = m } ∷ []) in
-    let now : IsNodeCounted (events + 1) (with_item x m) = record { tickets = more.tickets; items = omega arith; batches = more.batches; fetches = omega arith; rows = omega arith } in
+    let now : IsNodeCounted (events + 1) (with_item x m) = record { tickets = more.tickets; items = omega arith; batches = more.batches; fetches = omega arith } in
     record {
       within = within events (begun (with_item x m)) few now tt (omega arith) start.number (omega arith) (omega arith);
       letters = tt;
@@ -115,7 +119,7 @@ settled_counts events x number counted =
     let count_tickets = count.tickets in
     let count_opened = count.opened in
     let count_fetches = count.fetches in
-    record { tickets = omega arith; items = omega arith; batches = omega arith; fetches = omega arith; rows = counted.rows }
+    record { tickets = omega arith; items = omega arith; batches = omega arith; fetches = omega arith }
 
 learned_keeps : (events : ℕ) (x : NodeState) (number : ℕ) (key : Key) (dentry : Dentry) → IsStart events x → dentry_field.Fits dentry → KeepsRanges events (begun (learned x number key dentry))
 unfolding learned
@@ -127,7 +131,7 @@ learned_keeps events x number key dentry start fits =
     let counts = settled_counts events x number start.counted in
     let count = settle_count x.waiting number in
     let count_opened = count.opened in
-    let now : IsNodeCounted (events + 1) (learned x number key dentry) = record { tickets = counts.tickets; items = counts.items; batches = counts.batches; fetches = counts.fetches; rows = counts.rows } in
+    let now : IsNodeCounted (events + 1) (learned x number key dentry) = record { tickets = counts.tickets; items = counts.items; batches = counts.batches; fetches = counts.fetches } in
     record {
       within = within events (begun (learned x number key dentry)) few now tt (omega arith) start.number (omega arith) (omega arith);
       letters = tt;
@@ -148,7 +152,7 @@ learned_keeps events x number key dentry start fits =
 
 refusal_fits : (call : Option CallRec) (errno : Errno) (point : ℕ) → ((c : CallRec) → call ≡ Some c → CallFits c) → Each LetterFits (refusal call errno point)
 refusal_fits None errno point fits = tt
-refusal_fits (Some call) errno point fits = ((reply_fits call.id (Fail errno) (id_of_call call (fits call refl).0) (fail_fits errno), tt), tt)
+refusal_fits (Some call) errno point fits = (reply_fits call.id (Fail errno) (id_of_call call (fits call refl)) (fail_fits errno), tt)
 
 refusals_fit : (list : WaitList) (errno : Errno) (point : ℕ) (tickets : List ℕ) → WaitersFit list → Each LetterFits (refusals list errno point tickets)
 refusals_fit list errno point [] fits = tt
@@ -173,7 +177,7 @@ refuse_keeps events x point errno fetch start =
     let same_tickets = same.0 in
     let same_opened = same.1 in
     let same_fetches = ap length same.2 in
-    let now : IsNodeCounted (events + 1) (dismissed x fetch.number fetch.waiters) = record { tickets = omega arith; items = counts.items; batches = counts.batches; fetches = omega arith; rows = counts.rows } in
+    let now : IsNodeCounted (events + 1) (dismissed x fetch.number fetch.waiters) = record { tickets = omega arith; items = counts.items; batches = counts.batches; fetches = omega arith } in
     record {
       within = within events (refuse x point errno fetch) few now (refusals_fit x.waiting errno point fetch.waiters ranged.waiting) (omega arith) start.number (omega arith) (omega arith);
       letters = refusals_fit x.waiting errno point fetch.waiters ranged.waiting;
@@ -201,12 +205,11 @@ got_keeps events x point number key what (Some fetch) start fits = settle_keeps 
 
 -- ---- operations of the coordinator
 
--- a Lock that is taken is to cancel fetches once, and its operation to lay two rows
-operation_keeps : (events : ℕ) (x : NodeState) (operation : ℕ) (keys : List Key) → IsStart events x → Fits (message.Lock operation keys) → nat_lt x.last_operation operation ≡ true
-    → KeepsRanges events (begun (with_operation x operation (message.Lock operation keys)))
+-- an operation that is taken is to cancel fetches once at most
+operation_keeps : (events : ℕ) (x : NodeState) (operation : ℕ) (m : Message) → IsStart events x → Fits m → cancels m ≤ 1 → nat_lt x.last_operation operation ≡ true
+    → KeepsRanges events (begun (with_operation x operation m))
 unfolding with_operation with_item
-operation_keeps events x operation keys start fits newer =
-    let m = message.Lock operation keys in
+operation_keeps events x operation m start fits once newer =
     let few = start.few in
     let drawn = start.drawn in
     let opened = start.opened in
@@ -215,10 +218,9 @@ operation_keeps events x operation keys start fits newer =
     let before = start.counted in
     let items = before.items in
     let fetches = more.fetches in
-    let rows = more.rows in
     let later : x.last_operation < operation = grind (arith, nat_tests) in
     let cancelled = cancelling_join x.items (record { number = x.items_numbered; message = m } ∷ []) in
-    let now : IsNodeCounted (events + 1) (with_operation x operation m) = record { tickets = more.tickets; items = omega arith; batches = more.batches; fetches = omega arith; rows = omega arith } in
+    let now : IsNodeCounted (events + 1) (with_operation x operation m) = record { tickets = more.tickets; items = omega arith; batches = more.batches; fetches = omega arith } in
     record {
       within = within events (begun (with_operation x operation m)) few now tt (omega arith) start.number (omega arith) (omega arith);
       letters = tt;
@@ -233,11 +235,11 @@ operation_keeps events x operation keys start fits newer =
       counted = now;
     }
 
-lock_keeps : (events : ℕ) (x : NodeState) (operation : ℕ) (keys : List Key) → IsStart events x → Fits (message.Lock operation keys) → KeepsRanges events (begun (take_operation x operation (message.Lock operation keys)))
-lock_keeps events x operation keys start fits =
-    let m = message.Lock operation keys in
+-- a Lock, or a Block
+order_keeps : (events : ℕ) (x : NodeState) (operation : ℕ) (m : Message) → IsStart events x → Fits m → cancels m ≤ 1 → KeepsRanges events (begun (take_operation x operation m))
+order_keeps events x operation m start fits once =
     elim (nat_lt x.last_operation operation) as (λ b. nat_lt x.last_operation operation ≡ b → KeepsRanges events (begun (cond b (with_operation x operation m) x))) [
-      | true ↦ λ newer. operation_keeps events x operation keys start fits newer
+      | true ↦ λ newer. operation_keeps events x operation m start fits once newer
       | false ↦ λ _. keeps_same events x start
     ] refl
 
@@ -258,93 +260,100 @@ told_keeps events x letter start fits =
 
 count_keeps : (events : ℕ) (x : NodeState) (operation dir : ℕ) → IsStart events x → Fits (message.Count operation dir) → KeepsRanges events (take_count x operation dir)
 count_keeps events x operation dir start fits =
-    let counted = start.counted in
-    let rows = counted.rows in
-    let drawn = start.drawn in
-    let last = start.operation in
+    let rows = start.rows in
     let few = few_names x.rows dir in
     let told = counted_fits operation x.number (length (names_under x.rows dir)) (count_fields operation dir fits.fields) (node_fits x.number start.number) (omega arith) in
     let answer = letter Coord (Here 0) (count_told x.rows x.number operation dir) in
     elim (is_of x.locks.shut operation) as (λ b. KeepsRanges events (cond b (record (begun x) { sent = answer ∷ [] }) (begun x))) [
-      | true ↦ told_keeps events x answer start (told, tt)
+      | true ↦ told_keeps events x answer start told
       | false ↦ keeps_same events x start
     ]
 
-reopened_keeps : (events : ℕ) (x : NodeState) (operation : ℕ) (updates : List Update) → IsStart events x → Fits (message.Commit operation updates) → is_of x.locks.shut operation ≡ true
-    → KeepsRanges events (record { node = reopened x operation (owned x.table x.number updates); sent = letter Coord (Here 0) (message.Done operation x.number) ∷ []; notes = [] })
-unfolding reopened
-reopened_keeps events x operation updates start fits is =
-    let own = owned x.table x.number updates in
-    let y : NodeState = reopened x operation own in
+-- other rows, with an answer
+laid_keeps : (events : ℕ) (x y : NodeState) (updates : List Update) (letter : Letter) → IsStart events x → RowsFit updates → LetterFits letter → y ≡ record x { rows = laid updates x.rows; table = y.table; locks = y.locks; blocked = y.blocked }
+    → KeepsRanges events (record { node = y; sent = letter ∷ []; notes = [] })
+laid_keeps events x y updates letter start fits of_letter is =
     let few = start.few in
     let drawn = start.drawn in
     let opened = start.opened in
     let ranged = start.ranged in
     let more = counted_more events x start.counted in
-    let rows = more.rows in
-    let fields = commit_fields operation updates fits.fields in
-    let are = updates_are updates fields.1 in
-    let few_updates = are.few in
-    let few_own = owned_most x.table x.number updates in
-    let most = laid_most own x.rows ranged.sorted in
-    let shut = opened_count x.locks.shut operation is in
-    let was = shut.0 in
-    let none = shut.1 in
-    let answer = letter Coord (Here 0) (message.Done operation x.number) in
-    let letters : Each LetterFits (answer ∷ []) = ((done_fits operation x.number fields.0 (node_fits x.number start.number), tt), tt) in
-    let now : IsNodeCounted (events + 1) y = record { tickets = more.tickets; items = more.items; batches = more.batches; fetches = more.fetches; rows = omega arith } in
-    record {
-      within = within events (record { node = y; sent = answer ∷ []; notes = [] }) few now letters (omega arith) start.number (omega arith) (omega arith);
+    let z : NodeState = record x { rows = laid updates x.rows; table = y.table; locks = y.locks; blocked = y.blocked } in
+    let letters : Each LetterFits (letter ∷ []) = (of_letter, tt) in
+    let now : IsNodeCounted (events + 1) z = record { tickets = more.tickets; items = more.items; batches = more.batches; fetches = more.fetches } in
+    subst (λ (n : NodeState). KeepsRanges events (record { node = n; sent = letter ∷ []; notes = [] })) (sym is)
+    (record {
+      within = within events (record { node = z; sent = letter ∷ []; notes = [] }) few now letters (omega arith) start.number (omega arith) (omega arith);
       letters = letters;
       ranged = record {
-        rows = laid_ranged own x.rows (owned_fit x.table x.number updates (rows_of_updates updates are.fit)) ranged.rows;
-        sorted = laid_sorted own x.rows ranged.sorted;
+        rows = laid_ranged updates x.rows fits ranged.rows;
+        sorted = laid_sorted updates x.rows ranged.sorted;
         replica = ranged.replica;
         waiting = ranged.waiting;
         items = ranged.items;
         batches = ranged.batches;
       };
       counted = now;
-    }
+    })
 
 commit_keeps : (events : ℕ) (x : NodeState) (operation : ℕ) (updates : List Update) → IsStart events x → Fits (message.Commit operation updates) → KeepsRanges events (take_commit x operation updates)
+unfolding reopened
 commit_keeps events x operation updates start fits =
-    elim (is_of x.locks.shut operation) as (λ b. is_of x.locks.shut operation ≡ b
-    → KeepsRanges events (cond b (record { node = reopened x operation (owned x.table x.number updates); sent = letter Coord (Here 0) (message.Done operation x.number) ∷ []; notes = [] }) (begun x))) [
-      | true ↦ λ is. reopened_keeps events x operation updates start fits is
-      | false ↦ λ _. keeps_same events x start
-    ] refl
+    let own = owned x.table x.number updates in
+    let fields = commit_fields operation updates fits.fields in
+    let are = updates_are updates fields.1 in
+    let answer = letter Coord (Here 0) (message.Done operation x.number) in
+    elim (is_of x.locks.shut operation) as (λ b. KeepsRanges events (cond b (record { node = reopened x operation own; sent = answer ∷ []; notes = [] }) (begun x))) [
+      | true ↦ laid_keeps events x (reopened x operation own) own answer start (owned_fit x.table x.number updates (rows_of_updates updates are.fit)) (done_fits operation x.number fields.0 (node_fits x.number start.number)) refl
+      | false ↦ keeps_same events x start
+    ]
+
+-- ---- a name that is placed
+
+named_keeps : (events : ℕ) (x : NodeState) (operation version : ℕ) (rule : Rule) (rows : List NamedRow) (name : Option (List ℕ)) → IsStart events x → Fits (message.Install operation version rule rows)
+    → KeepsRanges events (install_named x operation version rule rows name)
+unfolding installed
+named_keeps events x operation version rule rows None start fits = keeps_same events x start
+named_keeps events x operation version rule rows (Some name) start fits =
+    let fields = install_fields operation version rule rows fits.fields in
+    laid_keeps events x (installed x (table_with x.table version name rule) (puts name rows)) (puts name rows) (letter Coord (Here 0) (message.Installed operation x.number)) start
+    (puts_fit name rows (rows_are rows fields.1).fit) (installed_fits operation x.number fields.0 (node_fits x.number start.number)) refl
+
+install_keeps : (events : ℕ) (x : NodeState) (operation version : ℕ) (rule : Rule) (rows : List NamedRow) → IsStart events x → Fits (message.Install operation version rule rows)
+    → KeepsRanges events (take_install x operation version rule rows)
+install_keeps events x operation version rule rows start fits =
+    elim (is_within x.table.nodes rule) as (λ b. KeepsRanges events (cond b (install_named x operation version rule rows (name_blocked x.blocked operation)) (begun x))) [
+      | true ↦ named_keeps events x operation version rule rows (name_blocked x.blocked operation) start fits
+      | false ↦ keeps_same events x start
+    ]
 
 -- ---- any record
 
-message_keeps : (events : ℕ) (x : NodeState) (point : ℕ) (m : Message) → IsStart events x → Fits m → IsFirst m (Node x.number) → KeepsRanges events (take_message x point m)
-message_keeps events x point (message.Call call) start fits first = call_keeps events x call start (call_of_record call fits, first x.number refl)
-message_keeps events x point (message.FetchAsk asker number key) start fits first =
+message_keeps : (events : ℕ) (x : NodeState) (point : ℕ) (m : Message) → IsStart events x → Fits m → KeepsRanges events (take_message x point m)
+message_keeps events x point (message.Call call) start fits = call_keeps events x call start (call_of_record call fits)
+message_keeps events x point (message.FetchAsk asker number key) start fits =
     elim (is_asker x.table.nodes asker) as (λ b. KeepsRanges events (begun (cond b (with_item x (message.FetchAsk asker number key)) x))) [
       | true ↦ ask_keeps events x (message.FetchAsk asker number key) start fits refl
       | false ↦ keeps_same events x start
     ]
-message_keeps events x point (message.FetchGot number key what) start fits first = got_keeps events x point number key what (fetch_of x.waiting number) start fits
-message_keeps events x point (message.Lock operation keys) start fits first = lock_keeps events x operation keys start fits
-message_keeps events x point (message.Count operation dir) start fits first = count_keeps events x operation dir start fits
-message_keeps events x point (message.Commit operation updates) start fits first = commit_keeps events x operation updates start fits
-message_keeps events x point other start fits first = keeps_same events x start
+message_keeps events x point (message.FetchGot number key what) start fits = got_keeps events x point number key what (fetch_of x.waiting number) start fits
+message_keeps events x point (message.Lock operation keys) start fits = order_keeps events x operation (message.Lock operation keys) start fits (omega arith)
+message_keeps events x point (message.Count operation dir) start fits = count_keeps events x operation dir start fits
+message_keeps events x point (message.Commit operation updates) start fits = commit_keeps events x operation updates start fits
+message_keeps events x point (message.Block operation name) start fits = order_keeps events x operation (message.Block operation name) start fits (omega arith)
+message_keeps events x point (message.Install operation version rule rows) start fits = install_keeps events x operation version rule rows start fits
+message_keeps events x point other start fits = keeps_same events x start
 
-delivered_keeps : (events : ℕ) (x : NodeState) (e : Envelope) → IsStart events x → IsRecord e → e.to ≡ Node x.number → KeepsRanges events (delivered x e)
+delivered_keeps : (events : ℕ) (x : NodeState) (e : Envelope) → IsStart events x → IsRecord e → KeepsRanges events (delivered x e)
 unfolding delivered
-delivered_keeps events x e start sent to =
+delivered_keeps events x e start sent =
     let read : reading e.bytes ≡ Ok sent.0 = ap reading sent.2 ∙ spelled_reads sent.0 sent.1 in
-    subst (λ (r : Result Message WireFault). KeepsRanges events (take_read x e.point r)) (sym read) (message_keeps events x e.point sent.0 start sent.1 (subst (IsFirst sent.0) to sent.3))
-
-to_node : (to : Actor) (number : ℕ) → is_to_node to number ≡ true → to ≡ Node number
-to_node (Client lane) number is = absurd (cc)
-to_node (Node n) number is = ap Node (same_number n number is)
-to_node Coord number is = absurd (cc)
+    subst (λ (r : Result Message WireFault). KeepsRanges events (take_read x e.point r)) (sym read) (message_keeps events x e.point sent.0 start sent.1)
 
 pub deliver_keeps : (events : ℕ) (x : NodeState) (e : Envelope) (work : Work) → IsStart events x → IsRecord e → node_step x (Deliver e) ≡ Some work → KeepsRanges events work
 unfolding node_step
 deliver_keeps events x e work start sent is =
-    elim (is_to_node e.to x.number) as (λ b. is_to_node e.to x.number ≡ b → only_if b (delivered x e) ≡ Some work → KeepsRanges events work) [
-      | true ↦ λ to z. subst (KeepsRanges events) (same_Some (delivered x e) work z) (delivered_keeps events x e start sent (to_node e.to x.number to))
-      | false ↦ λ _ z. absurd (cc)
-    ] refl is
+    elim (is_to_node e.to x.number) as (λ b. only_if b (delivered x e) ≡ Some work → KeepsRanges events work) [
+      | true ↦ λ z. subst (KeepsRanges events) (same_Some (delivered x e) work z) (delivered_keeps events x e start sent)
+      | false ↦ λ z. absurd (cc)
+    ] is

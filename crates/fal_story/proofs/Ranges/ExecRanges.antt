@@ -22,20 +22,18 @@ use Rattle.fal_node.specs.Letters.{Work, begun}
 use Rattle.fal_run.specs.Letters.{commits_in, passed_on}
 use Rattle.fal_node.specs.State.{NodeState, batch_of}
 use Rattle.fal_node.specs.Step.{node_step}
-use Rattle.fal_wire.specs.Numbers.{id_field}
-use Rattle.fal_wire.specs.Ops.{call_field}
-use Rattle.fal_story.proofs.Lists.Each.{Each, each_weaker, each_join}
+use Rattle.fal_story.proofs.Lists.Each.{Each, each_both, each_weaker, each_join}
 use Rattle.fal_story.proofs.Lists.Members.{each_in, each_map, find_in}
 use Rattle.fal_story.proofs.Ranges.Bounds.{CallFits, IsNodeRanged, IsNodeCounted}
-use Rattle.fal_story.proofs.Ranges.MessageRanges.{call_fits, reply_fits, id_of_call}
+use Rattle.fal_story.proofs.Ranges.MessageRanges.{call_fits, reply_fits, id_of_call, passed_fits}
 use Rattle.fal_story.proofs.Ranges.NodeRanges.{IsStart, KeepsRanges, LetterFits, within, counted_more}
-use Rattle.fal_story.proofs.Ranges.RowCounts.{after_most, after_sorted}
+use Rattle.fal_story.proofs.Ranges.RowCounts.{after_sorted}
 use Rattle.fal_story.proofs.Ranges.RowRanges.{AreRowsRanged, IsOutRanged, change_fits, rows_ranged, call_ranged, fresh_fits}
 use Rattle.fal_story.specs.Clusters.{is_served}
 
--- a call that is planned is one that is served, and in its ranges
+-- a call that is planned is one that is served, was not handed on too often, and is in its ranges
 abbrev pub IsFit : BatchCall → Type 0
-IsFit p = (is_served p.call.op ≡ true) × CallFits p.call
+IsFit p = (is_served p.call.op ≡ true) × (p.call.id.hop ≤ 20000) × CallFits p.call
 
 -- the work on a node when so many calls of a batch are executed
 record IsRun (x : NodeState) (k : Work) (done : ℕ) : Type 0 where
@@ -44,7 +42,6 @@ record IsRun (x : NodeState) (k : Work) (done : ℕ) : Type 0 where
   letters : Each LetterFits k.sent
   drawn : k.node.drawn ≤ x.drawn + done
   commits : commits_in k.notes ≤ done
-  count : length k.node.rows + x.drawn ≤ length x.rows + k.node.drawn
   node : k.node ≡ record x { rows = k.node.rows; drawn = k.node.drawn }
 
 -- ---- one call
@@ -68,39 +65,28 @@ one_drawn op Keep = omega arith
 one_drawn op (Put inode) = elim (is_making op) as (λ b. cond b 1 0 ≤ 1) [ true ↦ omega arith | false ↦ omega arith ]
 one_drawn op Remove = omega arith
 
--- a call that is passed on is so for the first time
-passed_fits : (call : CallRec) → CallFits call → call_field.Fits (passed_on call)
-unfolding call_field id_field
-passed_fits call fits =
-    let first = fits.1 in
-    let id = fits.0.0 in
-    ((id.0, (id.1.0, (id.1.1.0, omega arith))), fits.0.1)
+letter_fits : (call : CallRec) (commits : ℕ) (making : Bool) (row : Option Inode) (out : ExecOut) → IsOutRanged making row out → call.id.hop ≤ 20000 → CallFits call → LetterFits (answer_letter call commits out)
+letter_fits call commits making row (Finish reply change) out few fits = reply_fits call.id reply (id_of_call call fits) out.0
+letter_fits call commits making row (Opened ino) out few fits = absurd out
+letter_fits call commits making row PassOn out few fits = call_fits (passed_on call) (passed_fits call few fits)
 
-letter_fits : (call : CallRec) (commits : ℕ) (making : Bool) (row : Option Inode) (out : ExecOut) → IsOutRanged making row out → CallFits call → LetterFits (answer_letter call commits out)
-letter_fits call commits making row (Finish reply change) out fits = (reply_fits call.id reply (id_of_call call fits.0) out.0, tt)
-letter_fits call commits making row (Opened ino) out fits = absurd out
-letter_fits call commits making row PassOn out fits = (call_fits (passed_on call) (passed_fits call fits), λ n e. absurd (cc))
-
-run_as : (x : NodeState) (k : Work) (done : ℕ) (p : BatchCall) (outcome : ExecOut) → IsOutRanged (is_making p.call.op) (row_at k.node.rows p.last) outcome → CallFits p.call → IsRun x k done → IsRun x (exec_as k p outcome) (suc done)
+run_as : (x : NodeState) (k : Work) (done : ℕ) (p : BatchCall) (outcome : ExecOut) → IsOutRanged (is_making p.call.op) (row_at k.node.rows p.last) outcome → p.call.id.hop ≤ 20000 → CallFits p.call → IsRun x k done → IsRun x (exec_as k p outcome) (suc done)
 unfolding exec_as
-run_as x k done p outcome out fits run =
+run_as x k done p outcome out hops fits run =
     let drawn = run.drawn in
     let commits = run.commits in
-    let count = run.count in
     let change = change_of outcome in
     let of_change = change_fits (is_making p.call.op) (row_at k.node.rows p.last) outcome out in
     let fresh = number_after k.node.number k.node.drawn in
     let one = one_commit p.call fresh change in
     let one_number = one_drawn p.call.op change in
     let both = commits_join k.notes (commit_notes p.call fresh change) in
-    let most = after_most k.node.rows p.last p.call.op change of_change run.sorted in
     record {
       rows = rows_ranged k.node.rows p.last (is_making p.call.op) (row_at k.node.rows p.last) change of_change run.rows;
       sorted = after_sorted k.node.rows p.last change run.sorted;
-      letters = each_join LetterFits k.sent _ run.letters (letter_fits p.call (commits_in k.notes) (is_making p.call.op) (row_at k.node.rows p.last) outcome out fits, tt);
+      letters = each_join LetterFits k.sent _ run.letters (letter_fits p.call (commits_in k.notes) (is_making p.call.op) (row_at k.node.rows p.last) outcome out hops fits, tt);
       drawn = omega arith;
       commits = omega arith;
-      count = omega arith;
       node = ap (λ (n : NodeState). record n { rows = rows_after k.node.rows p.last change; drawn = k.node.drawn + drawn_by p.call.op change }) run.node;
     }
 
@@ -110,7 +96,7 @@ run_one x k done p number few fit run =
     let drawn = run.drawn in
     let same : k.node.number ≡ x.number = ap (λ (n : NodeState). n.number) run.node in
     run_as x k done p (call_outcome k.node.number k.node.rows k.node.drawn p)
-    (call_ranged k.node.number k.node.rows k.node.drawn p run.rows fit.0 fit.1.0 (fresh_fits k.node.number k.node.drawn (omega arith) (omega arith))) fit.1 run
+    (call_ranged k.node.number k.node.rows k.node.drawn p run.rows fit.0 fit.2 (fresh_fits k.node.number k.node.drawn (omega arith) (omega arith))) fit.1 fit.2 run
 
 -- ---- all of them
 
@@ -139,12 +125,10 @@ executed_keeps events x number batch start short fit =
     let small = start.number in
     let ranged = start.ranged in
     let more = counted_more events x start.counted in
-    let run = run_all y (begun y) 0 batch.calls start.number (omega arith) fit (record { rows = ranged.rows; sorted = ranged.sorted; letters = tt; drawn = omega arith; commits = omega arith; count = omega arith; node = refl }) in
+    let run = run_all y (begun y) 0 batch.calls start.number (omega arith) fit (record { rows = ranged.rows; sorted = ranged.sorted; letters = tt; drawn = omega arith; commits = omega arith; node = refl }) in
     let work : Work = exec_all (begun y) batch.calls in
-    let rows = more.rows in
-    let run_count = run.count in
     let now : IsNodeCounted (events + 1) work.node =
-    subst (IsNodeCounted (events + 1)) (sym run.node) (record { tickets = more.tickets; items = more.items; batches = more.batches; fetches = more.fetches; rows = omega arith }) in
+    subst (IsNodeCounted (events + 1)) (sym run.node) (record { tickets = more.tickets; items = more.items; batches = more.batches; fetches = more.fetches }) in
     let run_drawn = run.drawn in
     let run_commits = run.commits in
     let same_opened : work.node.waiting.opened ≡ x.waiting.opened = ap (λ (n : NodeState). n.waiting.opened) run.node in
@@ -172,13 +156,13 @@ execute_found events x number (Some batch) work start fit is =
       | false ↦ λ yet e. let h = fit batch refl yet in subst (KeepsRanges events) (same_Some (executed x number batch) work e) (executed_keeps events x number batch start h.0 h.1)
     ] refl is
 
-both_fit : (ps : List BatchCall) → Each (λ p. is_served p.call.op ≡ true) ps → Each (λ p. CallFits p.call) ps → Each IsFit ps
-both_fit [] a b = tt
-both_fit (p ∷ ps) a b = ((a.0, b.0), both_fit ps a.1 b.1)
+-- a call that is planned is one that is served, and was not handed on too often
+abbrev pub IsServed : BatchCall → Type 0
+IsServed p = (is_served p.call.op ≡ true) × (p.call.id.hop ≤ 20000)
 
--- the calls of a batch that is not executed are served here
+-- the calls of a batch that is not executed are such ones
 abbrev pub AreServed : NodeState → Type 0
-AreServed x = (number : ℕ) (batch : Batch) → batch_of x number ≡ Some batch → batch.executed ≡ false → Each (λ p. is_served p.call.op ≡ true) batch.calls
+AreServed x = (number : ℕ) (batch : Batch) → batch_of x number ≡ Some batch → batch.executed ≡ false → Each IsServed batch.calls
 
 pub exec_keeps : (events : ℕ) (x : NodeState) (number : ℕ) (work : Work) → IsStart events x → AreServed x → node_step x (Exec number) ≡ Some work → KeepsRanges events work
 unfolding node_step
@@ -186,4 +170,4 @@ exec_keeps events x number work start served is =
     execute_found events x number (batch_of x number) work start
     (λ batch there yet.
     let h = each_in (λ (b : Batch). (length b.calls ≤ 64) × Each (λ (p : BatchCall). CallFits p.call) b.calls) x.batches batch start.ranged.batches (find_in (λ (b : Batch). b.number == number) x.batches batch there).1 in
-    (h.0, both_fit batch.calls (served number batch there yet) h.1)) is
+    (h.0, each_both IsServed _ IsFit batch.calls (λ p is fits. (is.0, is.1, fits)) (served number batch there yet) h.1)) is

@@ -1,9 +1,8 @@
--- A call that waits at the node of its path does not leave, and what it waits on is a key in the ranges.
-use Rattle.std.proofs.Common.{◌≡◌, ℕ, Bool, true, false, not, ◌&&◌, cond, List, [], ◌∷◌, ◌++◌, Option, Some, None, refl, sym, ap, ◌∙◌, subst, eq-eqb}
+-- What a call at a node waits on is a key in the ranges, and where its client is told of a later table that has a higher version.
+use Rattle.std.proofs.Common.{◌≡◌, ℕ, Bool, true, false, not, ◌&&◌, cond, List, [], ◌∷◌, ◌++◌, Option, Some, None, refl, sym, subst, ◌==◌, ◌<◌}
 use Rattle.std.proofs.lemmas.Option.{same_Some}
 use Rattle.fal_base.specs.declared.call.CallRec.{CallRec}
 use Rattle.fal_base.specs.declared.call.Cred.{Cred}
-use Rattle.fal_base.specs.declared.event.Actor.TheVariants.{Node}
 use Rattle.fal_base.specs.declared.inode.Dentry.{Dentry}
 use Rattle.fal_base.specs.declared.key.Key.{Key}
 use Rattle.fal_base.specs.declared.op.Op.{Op}
@@ -14,13 +13,11 @@ use Rattle.fal_base.specs.declared.reply.Errno.TheVariants.{Eacces}
 use Rattle.fal_base.specs.Maps.{value_at}
 use Rattle.fal_base.specs.Tree.{key_of, root_key}
 use Rattle.fal_base.specs.Walk.{dentry_grants}
-use Rattle.fal_batch.proofs.Truth.{and_is_false}
 use Rattle.fal_batch.specs.Fate.{Setting, Fate, Skips, Leaves, Waits, Joins, last_of, is_blocked, goes_by_parent, away_to, fate_at, fate_walked, walk_of, is_elsewhere, fate_by, fate}
 use Rattle.fal_base.specs.OpPaths.{good_names, op_names}
-use Rattle.fal_client.specs.Paths.{node_for, addressee}
 use Rattle.fal_dentry.specs.TreeWalk.{last_key, last_name}
 use Rattle.fal_dentry.specs.Walk.{Dentries, ReplicaWalk, Shut, Missing, Stop, Ready, is_among, past, into_dir, walk_on}
-use Rattle.fal_place.specs.Placement.{Placement, opening_table, route}
+use Rattle.fal_place.specs.Placement.{route, owner}
 use Rattle.fal_wire.specs.Format.{AreItems}
 use Rattle.fal_wire.specs.Names.{name_field, key_field, path_names, path_field, path_arg_field}
 use Rattle.fal_wire.specs.Ops.{path_and_mode, path_and_want, path_and_owner, path_and_size, op_field, call_field}
@@ -28,6 +25,7 @@ use Rattle.fal_wire.specs.Rows.{dentry_field}
 use Rattle.fal_story.proofs.Lists.Each.{Each}
 use Rattle.fal_story.proofs.Ranges.MessageRanges.{root_fits, under_fits}
 use Rattle.fal_story.proofs.Ranges.RowRanges.{op_of_call}
+use Rattle.fal_story.proofs.Gathers.Leaving.{told_of}
 
 -- ---- the names of a call
 
@@ -99,73 +97,39 @@ walk_fits entries cred shut parent key (name ∷ names) ranged fits named =
 
 -- ---- what becomes of the call
 
--- it stays, and where it waits the key is in the ranges
-abbrev pub FateFits : Fate → Type 0
-FateFits Skips = Unit {0}
-FateFits (Leaves to) = ⊥
-FateFits (Waits key) = key_field.Fits key
-FateFits (Joins denied parent last keys) = Unit {0}
+-- where its client is told that knows an older table, and where it waits the key is in the ranges
+abbrev pub FateFits : Setting → CallRec → Fate → Type 0
+FateFits s call Skips = Unit {0}
+FateFits s call (Leaves to) = to ≡ None → call.version < s.table.version
+FateFits s call (Waits key) = key_field.Fits key
+FateFits s call (Joins denied parent last keys) = Unit {0}
 
--- no name goes by its parent where there are no rules
-pub never_by_parent : (nodes : ℕ) (last : Option (List ℕ)) → goes_by_parent (opening_table nodes) last ≡ false
-never_by_parent nodes None = refl
-never_by_parent nodes (Some name) = refl
-
-at_fits : (s : Setting) (b : Bool) (parent : Option Dentry) (keys : List Key) (last : Key) → b ≡ false → FateFits (fate_at s b parent keys last)
-at_fits s true parent keys last is = absurd (cc)
-at_fits s false parent keys last is = elim (is_among last s.shut) as (λ b. FateFits (cond b Skips (Joins false parent last (keys ++ last ∷ [])))) [ true ↦ tt | false ↦ tt ]
-
-walked_fits : (s : Setting) (nodes : ℕ) (names : List (List ℕ)) (walk : ReplicaWalk) → s.table ≡ opening_table nodes → WalkFits walk → FateFits (fate_walked s names walk)
-walked_fits s nodes names (Shut key) table h = tt
-walked_fits s nodes names (Missing key keys) table h = h
-walked_fits s nodes names (Stop errno keys) table h = tt
-walked_fits s nodes names (Ready parent inos keys) table h =
-    at_fits s (goes_by_parent s.table (last_of names)) parent keys (last_key parent (last_name names)) (ap (λ t. goes_by_parent t (last_of names)) table ∙ never_by_parent nodes (last_of names))
-
--- the call goes to this node by its path
-abbrev pub IsHere : Placement → ℕ → CallRec → Type 0
-IsHere table me call = (names : List (List ℕ)) → op_names call.op ≡ Some names → route table names ≡ me
-
-pub not_elsewhere : (s : Setting) (names : List (List ℕ)) → route s.table names ≡ s.me → is_elsewhere s names ≡ false
-not_elsewhere s names here =
-    ap (λ b. not (goes_by_parent s.table (last_of names)) && not b) (eq-eqb (route s.table names) s.me here) ∙ and_is_false (not (goes_by_parent s.table (last_of names)))
-
-by_fits : (s : Setting) (nodes : ℕ) (call : CallRec) (names : Option (List (List ℕ))) → s.table ≡ opening_table nodes → AreDentriesRanged s.dentries
-    → ((ns : List (List ℕ)) → names ≡ Some ns → (route s.table ns ≡ s.me) × NamesFit ns) → FateFits (fate_by s call names)
-by_fits s nodes call None table ranged here = tt
-by_fits s nodes call (Some names) table ranged here =
-    let h = here names refl in
-    elim (is_blocked s.blocked (last_of names)) as (λ b. FateFits (cond b Skips
-    (cond (is_elsewhere s names) (Leaves (away_to s.table call (route s.table names))) (fate_walked s names (walk_of s call names))))) [
-      | true ↦ tt
-      | false ↦ subst (λ b. FateFits (cond b (Leaves (away_to s.table call (route s.table names))) (fate_walked s names (walk_of s call names)))) (sym (not_elsewhere s names h.0))
-          (walked_fits s nodes names (walk_of s call names) table (walk_fits s.dentries call.cred s.shut None root_key names ranged root_fits h.1))
+at_fits : (s : Setting) (call : CallRec) (by_parent : Bool) (parent : Option Dentry) (keys : List Key) (last : Key) → FateFits s call (fate_at s by_parent parent keys last)
+at_fits s call by_parent parent keys last =
+    let joins = Joins false parent last (keys ++ last ∷ []) in
+    let own : FateFits s call (cond (is_among last s.shut) Skips joins) = elim (is_among last s.shut) as (λ b. FateFits s call (cond b Skips joins)) [ true ↦ tt | false ↦ tt ] in
+    elim (by_parent && not (owner s.table last == s.me)) as (λ b. FateFits s call (cond b (Leaves (Some (owner s.table last))) (cond (is_among last s.shut) Skips joins))) [
+      | true ↦ λ e. absurd (cc)
+      | false ↦ own
     ]
 
-pub fate_fits : (s : Setting) (nodes : ℕ) (call : CallRec) → s.table ≡ opening_table nodes → AreDentriesRanged s.dentries → IsHere s.table s.me call → call_field.Fits call → FateFits (fate s call)
+walked_fits : (s : Setting) (call : CallRec) (names : List (List ℕ)) (walk : ReplicaWalk) → WalkFits walk → FateFits s call (fate_walked s names walk)
+walked_fits s call names (Shut key) h = tt
+walked_fits s call names (Missing key keys) h = h
+walked_fits s call names (Stop errno keys) h = tt
+walked_fits s call names (Ready parent inos keys) h = at_fits s call (goes_by_parent s.table (last_of names)) parent keys (last_key parent (last_name names))
+
+by_fits : (s : Setting) (call : CallRec) (names : Option (List (List ℕ))) → AreDentriesRanged s.dentries → ((ns : List (List ℕ)) → names ≡ Some ns → NamesFit ns) → FateFits s call (fate_by s call names)
+by_fits s call None ranged fit = tt
+by_fits s call (Some names) ranged fit =
+    let away = Leaves (away_to s.table call (route s.table names)) in
+    let walked = fate_walked s names (walk_of s call names) in
+    let on : FateFits s call (cond (is_elsewhere s names) away walked) = elim (is_elsewhere s names) as (λ b. FateFits s call (cond b away walked)) [
+      | true ↦ λ e. told_of s call (route s.table names) (sym e)
+      | false ↦ walked_fits s call names (walk_of s call names) (walk_fits s.dentries call.cred s.shut None root_key names ranged root_fits (fit names refl))
+    ] in
+    elim (is_blocked s.blocked (last_of names)) as (λ b. FateFits s call (cond b Skips (cond (is_elsewhere s names) away walked))) [ true ↦ tt | false ↦ on ]
+
+pub fate_fits : (s : Setting) (call : CallRec) → AreDentriesRanged s.dentries → call_field.Fits call → FateFits s call (fate s call)
 unfolding fate
-fate_fits s nodes call table ranged here fits = by_fits s nodes call (op_names call.op) table ranged (λ names is. (here names is, op_names_fit call.op names is (op_of_call call fits)))
-
--- ---- where the client sent it
-
-same_node : (a b : ℕ) → Node a ≡ Node b → a ≡ b
-same_node a b e = cc
-
-path_here : (table : Placement) (path : PathArg) (names : List (List ℕ)) (n : ℕ) → good_names path ≡ Some names → node_for table path ≡ Node n → route table names ≡ n
-path_here table (Good names) other n is to = ap (route table) (sym (same_Some names other is)) ∙ same_node (route table names) n to
-path_here table (Bad fault raw) other n is to = absurd (cc)
-
-pub sent_here : (table : Placement) (o : Op) (names : List (List ℕ)) (n : ℕ) → op_names o ≡ Some names → addressee table o ≡ Node n → route table names ≡ n
-unfolding addressee
-sent_here table (op.Mkdir path mode) names n is to = path_here table path names n is to
-sent_here table (op.Create path mode) names n is to = path_here table path names n is to
-sent_here table (op.Stat path) names n is to = path_here table path names n is to
-sent_here table (op.Access path want) names n is to = path_here table path names n is to
-sent_here table (op.Chmod path mode) names n is to = path_here table path names n is to
-sent_here table (op.Chown path uid gid) names n is to = path_here table path names n is to
-sent_here table (op.Truncate path size) names n is to = path_here table path names n is to
-sent_here table (op.Unlink path) names n is to = path_here table path names n is to
-sent_here table (op.Rmdir path) names n is to = absurd (cc)
-sent_here table (op.Rename old new) names n is to = absurd (cc)
-sent_here table (op.List path) names n is to = path_here table path names n is to
-sent_here table (op.Place name rule) names n is to = absurd (cc)
+fate_fits s call ranged fits = by_fits s call (op_names call.op) ranged (λ names is. op_names_fit call.op names is (op_of_call call fits))

@@ -84,7 +84,7 @@ ordinal_short : IsShort ℕ ordinal_field 4
 unfolding ordinal_field
 ordinal_short = judged_short _ (number_short 4)
 
-id_short : IsShort CallId id_field 13
+pub id_short : IsShort CallId id_field 13
 unfolding id_field
 id_short = shaped_short _ _ (both_short lane_short (both_short ordinal_short (both_short ordinal_short (number_short 4))))
 
@@ -112,7 +112,7 @@ want_short : IsShort ℕ want_field 1
 unfolding want_field
 want_short = judged_short _ byte_short
 
-name_short : IsShort (List ℕ) name_field 256
+pub name_short : IsShort (List ℕ) name_field 256
 unfolding name_field
 name_short = judged_short _ text_short
 
@@ -169,6 +169,9 @@ unfolding rule_field
 rule_most Hash fits = omega arith
 rule_most ByParent fits = omega arith
 rule_most (Node n) fits = let h = (number_short 2).most_bytes n fits in omega arith
+
+pub rule_short : IsShort Rule rule_field 3
+rule_short = record { most_bytes = rule_most }
 
 -- ---- paths
 

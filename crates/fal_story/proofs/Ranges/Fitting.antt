@@ -11,16 +11,19 @@ use Rattle.fal_base.specs.declared.op.Op.TheVariants as op
 use Rattle.fal_base.specs.declared.path.PathArg.{PathArg}
 use Rattle.fal_base.specs.declared.path.PathArg.TheVariants.{Good, Bad}
 use Rattle.fal_base.specs.declared.path.PathFault.{PathFault}
+use Rattle.fal_base.specs.declared.rule.Rule.{Rule}
+use Rattle.fal_base.specs.declared.rule.Rule.TheVariants as rule
 use Rattle.fal_base.specs.OpPaths.{bad_path, fault_of, paths_of}
 use Rattle.fal_base.specs.PathArgs.{IsRead}
 use Rattle.fal_story.specs.Held.{ArePathsHeld}
-use Rattle.fal_story.specs.Clusters.{IsCall, IsCallInRange, IsOpInRange, IsPathInRange, is_served}
+use Rattle.fal_story.specs.Clusters.{IsCall, IsCallInRange, IsOpInRange, IsPathInRange, IsRuleInRange, is_served}
 use Rattle.fal_wire.specs.Format.{AreItems}
 use Rattle.fal_base.specs.Names.{is_name}
 use Rattle.fal_base.specs.Paths.{path_bytes}
 use Rattle.fal_wire.specs.Names.{name_field, path_names, path_field, path_arg_field}
 use Rattle.fal_wire.specs.Numbers.{cred_field, mode_field, want_field, size_field}
-use Rattle.fal_wire.specs.Ops.{path_and_mode, path_and_want, path_and_owner, path_and_size, two_paths, op_field}
+use Rattle.fal_wire.specs.Ops.{path_and_mode, path_and_want, path_and_owner, path_and_size, two_paths, name_and_rule, op_field}
+use Rattle.fal_wire.specs.Rows.{rule_field}
 
 -- ---- names
 
@@ -68,7 +71,7 @@ path_passes names fits = (fits.1, names_pass None names fits.0.1.1)
 
 -- ---- operations
 
--- nodes alone answer the operation, a bad path has the fault of its bytes, and a record can hold the operation where its path is good
+-- the operation is served, a bad path has the fault of its bytes, and a record can hold the operation where its path is good
 abbrev pub CanServe : Op → Type 0
 CanServe o = IsTrue (is_served o) × All IsRead (paths_of o) × (bad_path o ≡ None → op_field.Fits o)
 
@@ -158,6 +161,25 @@ rename_is old new = (
   λ h. (All-head IsRead old (new ∷ []) h.1, All-head IsRead new [] (All-tail IsRead old (new ∷ []) h.1), h.2),
 )
 
+rule_fits : (rule : Rule) → IsRuleInRange rule → rule_field.Fits rule
+unfolding rule_field
+rule_fits rule.Hash is = tt
+rule_fits rule.ByParent is = tt
+rule_fits (rule.Node node) is = omega arith
+
+rule_passes : (rule : Rule) → rule_field.Fits rule → IsRuleInRange rule
+unfolding rule_field
+rule_passes rule.Hash fits = tt
+rule_passes rule.ByParent fits = tt
+rule_passes (rule.Node node) fits = omega arith
+
+pub place_is : (name : List ℕ) (rule : Rule) → (IsTrue (is_name name) × IsRuleInRange rule) ↔ CanServe (op.Place name rule)
+unfolding bad_path op_field name_and_rule name_field
+place_is name rule = (
+  λ is. (refl, All-nil IsRead, λ good. ((short_name name is.0, is.0), rule_fits rule is.1)),
+  λ h. let fits = h.2 refl in (fits.0.1, rule_passes rule fits.1),
+)
+
 -- one thing as good as another, which is as good as a third
 pub as_good : {A B C : Type 0} → A ↔ B → B ↔ C → A ↔ C
 as_good f g = (λ a. g.0 (f.0 a), λ c. f.1 (g.1 c))
@@ -193,6 +215,7 @@ served_in_range (op.Chmod path mode) is = (chmod_is path mode).0 (held_in_range 
 served_in_range (op.Chown path uid gid) is = (chown_is path uid gid is.1 is.2).0 (held_in_range path true is.0 refl)
 served_in_range (op.Rmdir path) is = (rmdir_is path).0 (held_in_range path true is refl)
 served_in_range (op.Rename old new) is = (rename_is old new).0 (paths_in_range old new is.0 is.1)
+served_in_range (op.Place name rule) is = (place_is name rule).0 is
 served_in_range other is = absurd is
 
 pub call_in_range : (call : Call) → IsCallInRange call → IsCall call

@@ -1,5 +1,5 @@
 -- A node that gathers its free calls keeps to the ranges.
-use Rattle.std.proofs.Common.{◌≡◌, ℕ, suc, ◌+◌, ◌<◌, ◌≤◌, ◌^◌, nat_lt, true, false, cond, List, [], ◌∷◌, ◌++◌, length, filter, Option, Some, None, is_none, refl, ap, subst, ◌∙◌, arith}
+use Rattle.std.proofs.Common.{◌≡◌, ℕ, suc, ◌+◌, ◌<◌, ◌≤◌, ◌^◌, nat_lt, true, false, cond, List, [], ◌∷◌, ◌++◌, length, filter, Option, Some, None, is_none, refl, ap, subst, ◌∙◌, arith, sym}
 use Rattle.std.specs.List.{filter_map, cons_option}
 use Rattle.std.specs.Option.{option_map}
 use Rattle.std.proofs.lemmas.Bool.Decides.{nat_tests}
@@ -13,26 +13,28 @@ use Rattle.fal_batch.specs.declared.parts.Sending.{Sending}
 use Rattle.fal_batch.specs.declared.parts.Sending.TheVariants as sending
 use Rattle.fal_batch.specs.declared.parts.Wanted.{Wanted}
 use Rattle.fal_batch.specs.Fate.{Setting, Fate, Skips, Leaves, Waits, Joins, fate}
-use Rattle.fal_batch.specs.Plan.{Planning, no_plan, with_wait, with_planned, with_waiter, is_wanted, after_fate, plan_one, plan_calls, plan_of, is_idle, free_call, free_calls}
+use Rattle.fal_batch.specs.Plan.{Planning, no_plan, with_wait, with_planned, with_waiter, is_wanted, after_fate, plan_one, plan_calls, plan_of, is_idle, free_call, free_calls, with_away}
 use Rattle.fal_run.specs.declared.call.BatchCall.{BatchCall}
 use Rattle.fal_node.specs.declared.event.NodeEvent.TheVariants.{Gather}
 use Rattle.fal_wire.specs.declared.letter.Letter.{Letter}
-use Rattle.fal_node.specs.Gather.{setting_at, plan_at, gather_letters, leaving, batch_call, batch_calls, with_fetches, with_waiting, batched, with_batch, gathered}
+use Rattle.fal_node.specs.Gather.{setting_at, plan_at, gather_letters, leaving, batch_call, batch_calls, with_fetches, with_waiting, batched, with_batch, gathered, away_letter, away_letters}
 use Rattle.fal_node.specs.Letters.{Work}
 use Rattle.fal_node.specs.State.{NodeState}
 use Rattle.fal_node.specs.Step.{node_step}
-use Rattle.fal_place.specs.Placement.{opening_table}
+use Rattle.fal_place.specs.Placement.{changes_since}
 use Rattle.fal_wait.specs.declared.waiting_call.WaitingCall.{WaitingCall}
 use Rattle.fal_wait.specs.Waiting.{WaitList, free_tickets, call_with_ticket}
 use Rattle.fal_wire.specs.Names.{key_field}
-use Rattle.fal_story.proofs.Lists.Each.{Each, each_join, each_both}
+use Rattle.fal_story.proofs.Lists.Each.{Each, each_join, each_both, each_weaker}
 use Rattle.fal_story.proofs.Ranges.Bounds.{CallFits, IsNodeRanged, IsNodeCounted}
 use Rattle.fal_story.proofs.Ranges.Counters.{withouts_same, opens_count}
-use Rattle.fal_story.proofs.Ranges.FateRanges.{FateFits, IsHere, fate_fits}
-use Rattle.fal_story.proofs.Ranges.MessageRanges.{ask_fits, asker_fits}
-use Rattle.fal_story.proofs.Ranges.NodeRanges.{IsStart, KeepsRanges, LetterFits, within, counted_more}
+use Rattle.fal_story.proofs.Ranges.FateRanges.{FateFits, fate_fits}
+use Rattle.fal_story.proofs.Ranges.MessageRanges.{ask_fits, asker_fits, call_fits, id_of_call, passed_fits}
+use Rattle.fal_story.proofs.Ranges.NodeRanges.{IsStart, KeepsRanges, LetterFits, within, counted_more, IsTableRanged}
 use Rattle.fal_story.proofs.Ranges.RowCounts.{fewer_kept}
 use Rattle.fal_story.proofs.Ranges.WaitRanges.{WaitersFit, fit_withouts, fit_opens, waiter_of, waiter_has}
+use Rattle.fal_story.proofs.Ranges.StaleRecords.{since_fits, stale_fits}
+use Rattle.fal_run.specs.Letters.{passed_on}
 
 -- ---- the free calls
 
@@ -56,30 +58,41 @@ few_free list =
     let kept = fewer_kept (λ (w : WaitingCall). is_none w.fetch) list.calls in
     omega arith
 
-free_is : (list : WaitList) (ticket : ℕ) (w : WaitingCall) (call : Option CallRec) → call_with_ticket list ticket ≡ call
-    → option_map (λ (c : CallRec). record { ticket = ticket; call = c; fetch = None }) call ≡ Some w → call_with_ticket list ticket ≡ Some w.call
-free_is list ticket w None there is = absurd (cc)
-free_is list ticket w (Some call) there is = there ∙ ap (λ (x : WaitingCall). Some x.call) (same_Some _ w is)
-
--- what holds of each call that waits holds of the free ones
-each_free : (P : CallRec → Type 0) (list : WaitList) → Each (λ (w : WaitingCall). P w.call) list.calls → Each (λ (w : WaitingCall). P w.call) (free_calls list)
+-- what holds of each call that waits holds of the free ones, each of which is the call of its ticket
+each_free : (P : CallRec → Type 0) (list : WaitList) → Each (λ (w : WaitingCall). P w.call) list.calls → Each (λ (w : WaitingCall). (call_with_ticket list w.ticket ≡ Some w.call) × P w.call) (free_calls list)
 each_free P list h =
-    each_mapped (λ (w : WaitingCall). P w.call) (free_call list) (free_tickets list)
-    (λ ticket w is. waiter_has P list ticket w.call (free_is list ticket w (call_with_ticket list ticket) refl is) h)
+    each_mapped (λ (w : WaitingCall). (call_with_ticket list w.ticket ≡ Some w.call) × P w.call) (free_call list) (free_tickets list)
+    (λ ticket w is. free_has ticket w (call_with_ticket list ticket) refl is)
+  where
+    free_has : (ticket : ℕ) (w : WaitingCall) (call : Option CallRec) → call_with_ticket list ticket ≡ call → option_map (λ (c : CallRec). record { ticket = ticket; call = c; fetch = None }) call ≡ Some w
+        → (call_with_ticket list w.ticket ≡ Some w.call) × P w.call
+    free_has ticket w None there is = absurd (cc)
+    free_has ticket w (Some call) there is =
+        let same = same_Some _ w is in
+        let own : call_with_ticket list ticket ≡ Some w.call = there ∙ ap (λ (x : WaitingCall). Some x.call) same in
+        (ap (λ (x : WaitingCall). call_with_ticket list x.ticket) (sym same) ∙ own, waiter_has P list ticket w.call own h)
 
 -- ---- the plan
 
--- the record asks for a directory, by a key in the ranges
-abbrev SendFits : Sending → Type 0
-SendFits (sending.Away away) = ⊥
-SendFits (sending.Fetch key) = key_field.Fits key
+-- a call that leaves can be handed on, and where its client is told it has an older table
+abbrev LeavesFit : Setting → CallRec → Option ℕ → Type 0
+LeavesFit s call to = CallFits call × (call.id.hop ≤ 20000) × (to ≡ None → call.version < s.table.version)
+
+-- the record asks for a directory by a key in the ranges, or is of such a call
+abbrev SendFits : Setting → WaitList → Sending → Type 0
+SendFits s list (sending.Away away) = (call : CallRec) × (call_with_ticket list away.ticket ≡ Some call) × LeavesFit s call away.to
+SendFits s list (sending.Fetch key) = key_field.Fits key
+
+-- what is known of a free call
+abbrev FreeFits : Setting → WaitList → WaitingCall → Type 0
+FreeFits s list w = (call_with_ticket list w.ticket ≡ Some w.call) × CallFits w.call × (w.call.id.hop ≤ 20000) × FateFits s w.call (fate s w.call)
 
 -- the plan after so many free calls
-record IsPlan (limit : ℕ) (p : Planning) (met : ℕ) : Type 0 where
-  sends : Each SendFits p.sends
+record IsPlan (s : Setting) (list : WaitList) (p : Planning) (met : ℕ) : Type 0 where
+  sends : Each (SendFits s list) p.sends
   few_sends : length p.sends ≤ met
   few_fetches : length p.fetches ≤ met
-  few_calls : length p.calls ≤ limit
+  few_calls : length p.calls ≤ s.limit
 
 waiter_length : (fetches : List Wanted) (key : Key) (ticket : ℕ) → length (with_waiter fetches key ticket) ≤ length fetches + 1
 waiter_length [] key ticket = omega arith
@@ -93,49 +106,67 @@ waiter_length (w ∷ ws) key ticket =
 push_length : {A : Type 0} (xs : List A) (x : A) → length (xs ++ x ∷ []) ≡ length xs + 1
 push_length xs x = length-append xs (x ∷ [])
 
-after_is_plan : (limit : ℕ) (p : Planning) (ticket : ℕ) (f : Fate) (met : ℕ) → FateFits f → IsPlan limit p met → IsPlan limit (after_fate limit p ticket f) (suc met)
-unfolding with_wait with_planned
-after_is_plan limit p ticket Skips met fits h =
+after_is_plan : (s : Setting) (list : WaitList) (p : Planning) (w : WaitingCall) (f : Fate) (met : ℕ) → fate s w.call ≡ f → FreeFits s list w → IsPlan s list p met → IsPlan s list (after_fate s.limit p w.ticket f) (suc met)
+unfolding with_away with_wait with_planned
+after_is_plan s list p w Skips met is fits h =
     let few_sends = h.few_sends in
     let few_fetches = h.few_fetches in
     record { sends = h.sends; few_sends = omega arith; few_fetches = omega arith; few_calls = h.few_calls }
-after_is_plan limit p ticket (Leaves to) met fits h = absurd fits
-after_is_plan limit p ticket (Waits key) met fits h =
+after_is_plan s list p w (Leaves to) met is fits h =
     let few_sends = h.few_sends in
     let few_fetches = h.few_fetches in
-    let waiter = waiter_length p.fetches key ticket in
+    let away = sending.Away (record { ticket = w.ticket; to = to }) in
+    let one = push_length p.sends away in
+    record {
+      sends = each_join (SendFits s list) p.sends (away ∷ []) h.sends ((w.call, fits.0, (fits.1, fits.2, subst (FateFits s w.call) is fits.3)), tt);
+      few_sends = omega arith;
+      few_fetches = omega arith;
+      few_calls = h.few_calls;
+    }
+after_is_plan s list p w (Waits key) met is fits h =
+    let few_sends = h.few_sends in
+    let few_fetches = h.few_fetches in
+    let waiter = waiter_length p.fetches key w.ticket in
     let one = push_length p.sends (sending.Fetch key) in
-    elim (is_wanted p.fetches key) as (λ b. IsPlan limit (record p { fetches = with_waiter p.fetches key ticket; sends = cond b p.sends (p.sends ++ sending.Fetch key ∷ []) }) (suc met)) [
+    let of_key : key_field.Fits key = subst (FateFits s w.call) is fits.3 in
+    elim (is_wanted p.fetches key) as (λ b. IsPlan s list (record p { fetches = with_waiter p.fetches key w.ticket; sends = cond b p.sends (p.sends ++ sending.Fetch key ∷ []) }) (suc met)) [
       | true ↦ record { sends = h.sends; few_sends = omega arith; few_fetches = omega arith; few_calls = h.few_calls }
-      | false ↦ record { sends = each_join SendFits p.sends (sending.Fetch key ∷ []) h.sends (fits, tt); few_sends = omega arith; few_fetches = omega arith; few_calls = h.few_calls }
+      | false ↦ record { sends = each_join (SendFits s list) p.sends (sending.Fetch key ∷ []) h.sends (of_key, tt); few_sends = omega arith; few_fetches = omega arith; few_calls = h.few_calls }
     ]
-after_is_plan limit p ticket (Joins denied parent last keys) met fits h =
+after_is_plan s list p w (Joins denied parent last keys) met is fits h =
     let few_sends = h.few_sends in
     let few_fetches = h.few_fetches in
-    let x : Planned = record { ticket = ticket; denied = denied; parent = parent; last = last } in
+    let x : Planned = record { ticket = w.ticket; denied = denied; parent = parent; last = last } in
     let one = push_length p.calls x in
-    elim (nat_lt (length p.calls) limit) as (λ b. nat_lt (length p.calls) limit ≡ b → IsPlan limit (cond b (with_planned p x keys) p) (suc met)) [
-      | true ↦ λ below. record { sends = h.sends; few_sends = omega arith; few_fetches = omega arith; few_calls = push_below (length p.calls) limit (length (p.calls ++ x ∷ [])) below one }
+    elim (nat_lt (length p.calls) s.limit) as (λ b. nat_lt (length p.calls) s.limit ≡ b → IsPlan s list (cond b (with_planned p x keys) p) (suc met)) [
+      | true ↦ λ below. record { sends = h.sends; few_sends = omega arith; few_fetches = omega arith; few_calls = push_below (length p.calls) s.limit (length (p.calls ++ x ∷ [])) below one }
       | false ↦ λ _. record { sends = h.sends; few_sends = omega arith; few_fetches = omega arith; few_calls = h.few_calls }
     ] refl
   where
     push_below : (n limit m : ℕ) → nat_lt n limit ≡ true → m ≡ n + 1 → m ≤ limit
     push_below n limit m below is = grind (arith, nat_tests)
 
-calls_is_plan : (s : Setting) (p : Planning) (ws : List WaitingCall) (met : ℕ) → Each (λ (w : WaitingCall). FateFits (fate s w.call)) ws → IsPlan s.limit p met → IsPlan s.limit (plan_calls s p ws) (met + length ws)
+calls_is_plan : (s : Setting) (list : WaitList) (p : Planning) (ws : List WaitingCall) (met : ℕ) → Each (FreeFits s list) ws → IsPlan s list p met → IsPlan s list (plan_calls s p ws) (met + length ws)
 unfolding plan_one
-calls_is_plan s p [] met fits h = let same : met ≡ met + 0 = omega arith in subst (IsPlan s.limit p) same h
-calls_is_plan s p (w ∷ ws) met fits h =
+calls_is_plan s list p [] met fits h = let same : met ≡ met + 0 = omega arith in subst (IsPlan s list p) same h
+calls_is_plan s list p (w ∷ ws) met fits h =
     let next : suc met + length ws ≡ met + suc (length ws) = omega arith in
-    subst (IsPlan s.limit (plan_calls s (plan_one s p w) ws)) next (calls_is_plan s (plan_one s p w) ws (suc met) fits.1 (after_is_plan s.limit p w.ticket (fate s w.call) met fits.0 h))
+    subst (IsPlan s list (plan_calls s (plan_one s p w) ws)) next (calls_is_plan s list (plan_one s p w) ws (suc met) fits.1 (after_is_plan s list p w (fate s w.call) met refl fits.0 h))
 
 -- ---- what is sent
 
-gather_fit : (x : NodeState) (number : ℕ) (sends : List Sending) → x.number < 16 → number + length sends ≤ 2 ^ 64 → Each SendFits sends → Each LetterFits (gather_letters x number sends)
-gather_fit x number [] small below fits = tt
-gather_fit x number (sending.Away away ∷ sends) small below fits = absurd fits.0
-gather_fit x number (sending.Fetch key ∷ sends) small below fits =
-    ((ask_fits x.number number key (asker_fits x.number small) (omega arith) fits.0, tt), gather_fit x (number + 1) sends small (omega arith) fits.1)
+away_fits : (x : NodeState) (call : CallRec) (to : Option ℕ) → IsTableRanged x.table → LeavesFit (setting_at x) call to → LetterFits (away_letter x call to)
+away_fits x call None table fits = stale_fits call.id call.version x.table.version (changes_since call.version x.table) (id_of_call call fits.0) (fits.2 refl) table.version (since_fits call.version x.table table.rules)
+away_fits x call (Some m) table fits = call_fits (passed_on call) (passed_fits call fits.1 fits.0)
+
+gather_fit : (x : NodeState) (number : ℕ) (sends : List Sending) → x.number < 16 → IsTableRanged x.table → number + length sends ≤ 2 ^ 64 → Each (SendFits (setting_at x) x.waiting) sends → Each LetterFits (gather_letters x number sends)
+gather_fit x number [] small table below fits = tt
+gather_fit x number (sending.Away away ∷ sends) small table below fits =
+    let there = fits.0 in
+    subst (λ o. Each LetterFits (away_letters x o away.to ++ gather_letters x number sends)) (sym there.1)
+    (away_fits x there.0 away.to table there.2, gather_fit x number sends small table (omega arith) fits.1)
+gather_fit x number (sending.Fetch key ∷ sends) small table below fits =
+    (ask_fits x.number number key (asker_fits x.number small) (omega arith) fits.0, gather_fit x (number + 1) sends small table (omega arith) fits.1)
 
 -- ---- the batch
 
@@ -161,7 +192,7 @@ batch_keeps events x [] keys sent few ranged counted opened number drawn short f
 batch_keeps events x (call ∷ calls) keys sent few ranged counted opened number drawn short fit letters =
     let more = counted_more events x counted in
     let batches = counted.batches in
-    let now : IsNodeCounted (events + 1) (batched x (call ∷ calls) keys) = record { tickets = more.tickets; items = more.items; batches = omega arith; fetches = more.fetches; rows = more.rows } in
+    let now : IsNodeCounted (events + 1) (batched x (call ∷ calls) keys) = record { tickets = more.tickets; items = more.items; batches = omega arith; fetches = more.fetches } in
     record {
       within = within events (record { node = batched x (call ∷ calls) keys; sent = sent; notes = [] }) few now letters opened number (omega arith) (omega arith);
       letters = letters;
@@ -178,13 +209,9 @@ batch_keeps events x (call ∷ calls) keys sent few ranged counted opened number
 
 -- ---- the step
 
--- each call that waits goes to this node by its path
-abbrev pub AreHere : NodeState → Type 0
-AreHere x = Each (λ (w : WaitingCall). IsHere x.table x.number w.call) x.waiting.calls
-
-gathered_keeps : (events nodes : ℕ) (x : NodeState) → IsStart events x → x.table ≡ opening_table nodes → AreHere x → KeepsRanges events (gathered x (plan_at x))
+gathered_keeps : (events : ℕ) (x : NodeState) → IsStart events x → KeepsRanges events (gathered x (plan_at x))
 unfolding gathered with_waiting plan_at
-gathered_keeps events nodes x start table here =
+gathered_keeps events x start =
     let few = start.few in
     let small = start.number in
     let limit = start.limit in
@@ -192,11 +219,12 @@ gathered_keeps events nodes x start table here =
     let waiting_few = start.calls in
     let ranged = start.ranged in
     let s = setting_at x in
-    let fits = each_both (λ (w : WaitingCall). CallFits w.call) (λ (w : WaitingCall). IsHere x.table x.number w.call) (λ (w : WaitingCall). FateFits (fate s w.call)) x.waiting.calls
-    (λ w fits at. fate_fits s nodes w.call table ranged.replica at fits.0) ranged.waiting here in
+    let fits = each_both (λ (w : WaitingCall). CallFits w.call) (λ (w : WaitingCall). w.call.id.hop ≤ 20000) (λ (w : WaitingCall). CallFits w.call × (w.call.id.hop ≤ 20000) × FateFits s w.call (fate s w.call)) x.waiting.calls
+    (λ w fits hops. (fits, hops, fate_fits s w.call ranged.replica fits)) ranged.waiting start.hops in
     let free = few_free x.waiting in
     let plan = plan_of s x.waiting in
-    let is = calls_is_plan s no_plan (free_calls x.waiting) 0 (each_free (λ c. FateFits (fate s c)) x.waiting fits) (record { sends = tt; few_sends = omega arith; few_fetches = omega arith; few_calls = omega arith }) in
+    let frees = each_weaker _ (FreeFits s x.waiting) (free_calls x.waiting) (λ w is. (is.0, is.1.0, is.1.1, is.1.2)) (each_free (λ c. CallFits c × (c.id.hop ≤ 20000) × FateFits s c (fate s c)) x.waiting fits) in
+    let is = calls_is_plan s x.waiting no_plan (free_calls x.waiting) 0 frees (record { sends = tt; few_sends = omega arith; few_fetches = omega arith; few_calls = omega arith }) in
     let few_sends = is.few_sends in
     let few_fetches = is.few_fetches in
     let few_planned = is.few_calls in
@@ -223,14 +251,14 @@ gathered_keeps events nodes x start table here =
       items = ranged.items;
       batches = ranged.batches;
     })
-    (record { tickets = omega arith; items = counted.items; batches = counted.batches; fetches = omega arith; rows = counted.rows })
+    (record { tickets = omega arith; items = counted.items; batches = counted.batches; fetches = omega arith })
     (omega arith) small start.drawn (omega arith) calls.1
-    (gather_fit x x.waiting.opened plan.sends small (omega arith) is.sends)
+    (gather_fit x x.waiting.opened plan.sends small start.table (omega arith) is.sends)
 
-pub gather_keeps : (events nodes : ℕ) (x : NodeState) (work : Work) → IsStart events x → x.table ≡ opening_table nodes → AreHere x → node_step x Gather ≡ Some work → KeepsRanges events work
+pub gather_keeps : (events : ℕ) (x : NodeState) (work : Work) → IsStart events x → node_step x Gather ≡ Some work → KeepsRanges events work
 unfolding node_step
-gather_keeps events nodes x work start table here is =
+gather_keeps events x work start is =
     elim (is_idle (plan_at x)) as (λ b. cond b None (Some (gathered x (plan_at x))) ≡ Some work → KeepsRanges events work) [
       | true ↦ λ e. absurd (cc)
-      | false ↦ λ e. subst (KeepsRanges events) (same_Some (gathered x (plan_at x)) work e) (gathered_keeps events nodes x start table here)
+      | false ↦ λ e. subst (KeepsRanges events) (same_Some (gathered x (plan_at x)) work e) (gathered_keeps events x start)
     ] is

@@ -1,5 +1,5 @@
 -- Each event is within the ranges of the format, and keeps to them.
-use Rattle.std.proofs.Common.{◌≡◌, ℕ, ◌+◌, ◌<◌, ◌^◌, Bool, true, false, cond, List, [], ◌∷◌, length, Some, refl, sym, ap, subst, ◌∙◌, arith}
+use Rattle.std.proofs.Common.{◌≡◌, ⊎_elim, ℕ, ◌+◌, ◌<◌, ◌≤◌, ◌^◌, Bool, true, false, cond, List, [], ◌∷◌, length, Some, refl, sym, ap, subst, ◌∙◌, arith}
 use Rattle.std.specs.Prelude.{map, IsTrue, ◌==◌}
 use Rattle.std.specs.List.{find}
 use Rattle.std.proofs.lemmas.Option.{same_Some}
@@ -9,7 +9,6 @@ use Rattle.fal_base.specs.declared.event.Actor.{Actor}
 use Rattle.fal_base.specs.declared.event.Actor.TheVariants.{Client, Node}
 use Rattle.fal_client.specs.declared.event.ClientEvent.{ClientEvent}
 use Rattle.fal_client.specs.declared.event.ClientEvent.TheVariants as client
-use Rattle.fal_client.specs.Paths.{addressee}
 use Rattle.fal_client.specs.State.{Work as ClientWork}
 use Rattle.fal_client.specs.Step.{IsInRange, client_step}
 use Rattle.fal_coord.specs.State.{CoordState}
@@ -21,23 +20,26 @@ use Rattle.fal_wire.specs.declared.letter.Letter.{Letter}
 use Rattle.fal_wire.specs.Letters.{output_of}
 use Rattle.fal_node.specs.Letters.{Work}
 use Rattle.fal_node.specs.Step.{IsWithin, node_step}
-use Rattle.fal_place.specs.Placement.{route}
-use Rattle.fal_story.proofs.Events.FirstTable.{node_table, sent_there}
+use Rattle.fal_place.specs.Placement.{Placement}
+use Rattle.fal_wire.specs.Rows.{changes_field}
 use Rattle.fal_story.proofs.Events.Shows.{Ghost, Shows, WaitsAt, PlannedAt, lane_of, planned_lane, pending_calls, calls_in}
+use Rattle.fal_story.proofs.Events.Tables.{coord_version, own_table, own_version}
 use Rattle.fal_story.proofs.Lists.Each.{Each, each_weaker, each_join, each_front, each_back}
 use Rattle.fal_story.proofs.Lists.Grown.{put_all}
 use Rattle.fal_story.proofs.Lists.Members.{each_in, in_at}
 use Rattle.fal_story.proofs.Phase.{Idle, Plans, IsFor}
-use Rattle.fal_story.proofs.Ranges.Bounds.{IsRanged, IsNodeRanged, IsNodeCounted, IsRecord, Comes, ComesToClient}
+use Rattle.fal_story.proofs.Ranges.Bounds.{IsClientRanged, IsRanged, IsNodeRanged, IsNodeCounted, IsRecord, Comes, ComesToClient}
 use Rattle.fal_story.proofs.Ranges.ClientRanges.{IsClient, client_of, send_keeps, get_keeps}
 use Rattle.fal_story.proofs.Ranges.CoordBounds.{IsCoordRanged}
 use Rattle.fal_story.proofs.Ranges.Counters.{few_fetches, few_calls}
 use Rattle.fal_story.proofs.Ranges.Counts.{few_commits, few_taken, few_waiting}
 use Rattle.fal_story.proofs.Ranges.DeliverRanges.{deliver_keeps}
-use Rattle.fal_story.proofs.Ranges.ExecRanges.{AreServed, exec_keeps}
-use Rattle.fal_story.proofs.Ranges.FateRanges.{sent_here}
-use Rattle.fal_story.proofs.Ranges.GatherRanges.{AreHere, gather_keeps}
-use Rattle.fal_story.proofs.Ranges.NodeRanges.{IsStart, KeepsRanges, LetterFits, counted_more, release_keeps, serve_keeps}
+use Rattle.fal_story.proofs.Ranges.ExecRanges.{AreServed, IsServed, exec_keeps}
+use Rattle.fal_story.proofs.Ranges.GatherRanges.{gather_keeps}
+use Rattle.fal_story.proofs.Ranges.NodeRanges.{IsStart, IsTableRanged, KeepsRanges, LetterFits, counted_more, release_keeps, serve_keeps}
+use Rattle.fal_story.proofs.Ranges.OwnRows.{few_rows, own_parents}
+use Rattle.fal_story.proofs.Ranges.PlacingCounts.{few_placings}
+use Rattle.fal_story.proofs.Ranges.TableRanges.{rules_fit}
 use Rattle.fal_story.proofs.Ranges.ClientRanges as client_ranges
 use Rattle.fal_story.specs.Clusters.{IsCluster, is_lane, is_served}
 use Rattle.fal_story.specs.World.{World, put, posted, envelopes_of}
@@ -48,7 +50,7 @@ use Rattle.fal_story.specs.World.{World, put, posted, envelopes_of}
 pub letters_recorded : (from : Actor) (event commits : ℕ) (letters : List Letter) → Each LetterFits letters → Each IsRecord (envelopes_of from event commits (map output_of letters))
 unfolding output_of
 letters_recorded from event commits [] fit = tt
-letters_recorded from event commits (letter ∷ letters) fit = ((letter.message, fit.0.0, refl, fit.0.1), letters_recorded from event commits letters fit.1)
+letters_recorded from event commits (letter ∷ letters) fit = ((letter.message, fit.0, refl), letters_recorded from event commits letters fit.1)
 
 -- one more event, which is of another actor
 coord_more : (events : ℕ) (c : CoordState) → IsCoordRanged events c → IsCoordRanged (events + 1) c
@@ -58,16 +60,18 @@ node_posts : (config : Config) (w : World) (n : ℕ) (work : Work) → IsRanged 
     → IsRanged (posted config (record w { nodes = put w.nodes n work.node }) (Node n) (map output_of work.sent) work.notes)
 unfolding posted
 node_posts config w n work ranged keeps = record {
+  clients = ranged.clients;
   nodes = put_all (λ m x. IsNodeRanged x) w.nodes n work.node keeps.ranged (λ m _. ranged.nodes m);
   counted = put_all (λ m x. IsNodeCounted (w.events + 1) x) w.nodes n work.node keeps.counted (λ m _. counted_more w.events (w.nodes m) (ranged.counted m));
   coord = coord_more w.events w.coord ranged.coord;
   envelopes = each_join IsRecord w.envelopes _ ranged.envelopes (letters_recorded (Node n) w.events (length w.commits) work.sent keeps.letters);
 }
 
-client_posts : (config : Config) (w : World) (l : ℕ) (move : ClientWork) → IsRanged w → Each LetterFits move.sent
+client_posts : (config : Config) (w : World) (l : ℕ) (move : ClientWork) → IsRanged w → IsClientRanged move.client → Each LetterFits move.sent
     → IsRanged (posted config (record w { clients = put w.clients l move.client }) (Client l) (map output_of move.sent) move.notes)
 unfolding posted
-client_posts config w l move ranged fit = record {
+client_posts config w l move ranged client fit = record {
+  clients = put_all (λ m c. IsClientRanged c) w.clients l move.client client (λ m _. ranged.clients m);
   nodes = ranged.nodes;
   counted = λ m. counted_more w.events (w.nodes m) (ranged.counted m);
   coord = coord_more w.events w.coord ranged.coord;
@@ -75,6 +79,24 @@ client_posts config w l move ranged fit = record {
 }
 
 -- ---- what is known of a node before its step
+
+-- the table that a node has can be spelled
+table_ranged : (config : Config) (w : World) (n : ℕ) (h : Ghost) → IsCluster config → n < config.nodes → Shows config w h → IsTableRanged (w.nodes n).table
+table_ranged config w n h cluster there shows =
+    let few = few_placings config w h cluster shows in
+    let own = own_version config w h shows n there in
+    record {
+      rules = subst (λ (t : Placement). changes_field.Fits t.rules) (sym (own_table config w h shows n there)) (rules_fit config w h (w.nodes n).table.version cluster shows few);
+      version = omega arith;
+    }
+
+-- a call at a node was handed on no more often than commits and placements were made
+few_hops : (config : Config) (w : World) (l n : ℕ) (h : Ghost) → IsCluster config → n < config.nodes → Shows config w h → IsFor n (h.phase l) → (h.call l).id.hop ≤ 20000
+few_hops config w l n h cluster there shows is =
+    let commits = few_commits config w h cluster shows in
+    let placings = few_placings config w h cluster shows in
+    let version = coord_version config w h shows in
+    ⊎_elim {C = (h.call l).id.hop ≤ 20000} (λ none. omega arith) (λ x. let most = x.0 in omega arith) ((shows.good.lanes.routed l n is).there there)
 
 start_of : (config : Config) (w : World) (n : ℕ) (h : Ghost) → IsCluster config → n < config.nodes → w.events < 2 ^ 63 → Shows config w h → IsRanged w → IsStart w.events (w.nodes n)
 start_of config w n h cluster there few shows ranged =
@@ -104,19 +126,11 @@ start_of config w n h cluster there few shows ranged =
       calls = omega arith;
       pending = omega arith;
       operation = operation;
+      rows = few_rows config w h cluster shows n there ranged;
+      parents = own_parents config w h cluster shows n there ranged;
+      hops = each_weaker (WaitsAt h.call h.phase n) _ (w.nodes n).waiting.calls (λ x at. subst (λ (c : CallRec). c.id.hop ≤ 20000) (sym at.1) (few_hops config w (lane_of x) n h cluster there shows (subst (IsFor n) (sym at.0) refl))) (shows.held n).waiters;
+      table = table_ranged config w n h cluster there shows;
     }
-
--- each call that waits was sent to this node by its path
-here_of : (config : Config) (w : World) (n : ℕ) (h : Ghost) → n < config.nodes → Shows config w h → AreHere (w.nodes n)
-here_of config w n h there shows =
-    each_weaker (WaitsAt h.call h.phase n) _ (w.nodes n).waiting.calls
-    (λ x at names is.
-    let placed = shows.placed n in
-    let to = sent_there config w h shows (lane_of x) n there (subst (IsFor n) (sym at.0) refl) in
-    ap (λ t. route t names) (node_table config w h shows n)
-    ∙ sent_here w.coord.table x.call.op names n is (ap (λ (c : CallRec). addressee w.coord.table c.op) at.1 ∙ to)
-    ∙ sym placed.number)
-    (shows.held n).waiters
 
 -- the calls of a batch that is not executed are among those that a node keeps
 calls_of_found : (P : BatchCall → Type 0) (test : Batch → Bool) (bs : List Batch) (b : Batch) → Each P (calls_in bs) → find test bs ≡ Some b → b.executed ≡ false → Each P b.calls
@@ -129,33 +143,33 @@ calls_of_found P test (c ∷ bs) b each is yet =
       | false ↦ λ e. calls_of_found P test bs b (each_back P (pending_calls c) (calls_in bs) each) e yet
     ] is
 
--- and each of these is one that is served
-planned_served : (config : Config) (w : World) (n : ℕ) (h : Ghost) (x : BatchCall) → Shows config w h → PlannedAt h.call h.phase n x → is_served x.call.op ≡ true
-planned_served config w n h x shows at =
+-- and each of these is one that is served, and was not handed on too often
+planned_served : (config : Config) (w : World) (n : ℕ) (h : Ghost) (x : BatchCall) → IsCluster config → n < config.nodes → Shows config w h → PlannedAt h.call h.phase n x → IsServed x
+planned_served config w n h x cluster below shows at =
     let served = shows.good.lanes.under_way.served (planned_lane x) (λ idle. let wrong : Plans n x ≡ Idle = sym at.0 ∙ idle in cc) in
-    ap (λ (c : CallRec). is_served c.op) at.1 ∙ served
+    let hops = few_hops config w (planned_lane x) n h cluster below shows (subst (IsFor n) (sym at.0) refl) in
+    (ap (λ (c : CallRec). is_served c.op) at.1 ∙ served, subst (λ (c : CallRec). c.id.hop ≤ 20000) (sym at.1) hops)
 
-served_of : (config : Config) (w : World) (n : ℕ) (h : Ghost) → Shows config w h → AreServed (w.nodes n)
-served_of config w n h shows number batch there yet =
-    calls_of_found (λ (x : BatchCall). is_served x.call.op ≡ true) (λ (b : Batch). b.number == number) (w.nodes n).batches batch
-    (each_weaker (PlannedAt h.call h.phase n) _ (calls_in (w.nodes n).batches) (λ x at. planned_served config w n h x shows at) (shows.held n).planned) there yet
+served_of : (config : Config) (w : World) (n : ℕ) (h : Ghost) → IsCluster config → n < config.nodes → Shows config w h → AreServed (w.nodes n)
+served_of config w n h cluster below shows number batch there yet =
+    calls_of_found IsServed (λ (b : Batch). b.number == number) (w.nodes n).batches batch
+    (each_weaker (PlannedAt h.call h.phase n) _ (calls_in (w.nodes n).batches) (λ x at. planned_served config w n h x cluster below shows at) (shows.held n).planned) there yet
 
 node_keeps : (config : Config) (w : World) (n : ℕ) (h : Ghost) (e : NodeEvent) (work : Work) → IsCluster config → n < config.nodes → w.events < 2 ^ 63 → Shows config w h → IsRanged w
     → Comes w e → node_step (w.nodes n) e ≡ Some work → KeepsRanges w.events work
 node_keeps config w n h (node.Deliver envelope) work cluster there few shows ranged comes is =
     deliver_keeps w.events (w.nodes n) envelope work (start_of config w n h cluster there few shows ranged) (each_in IsRecord w.envelopes envelope ranged.envelopes (in_at w.envelopes comes.0 envelope comes.1)) is
 node_keeps config w n h node.Gather work cluster there few shows ranged comes is =
-    gather_keeps w.events config.nodes (w.nodes n) work (start_of config w n h cluster there few shows ranged) (shows.placed n).table (here_of config w n h there shows) is
+    gather_keeps w.events (w.nodes n) work (start_of config w n h cluster there few shows ranged) is
 node_keeps config w n h (node.Exec number) work cluster there few shows ranged comes is =
-    exec_keeps w.events (w.nodes n) number work (start_of config w n h cluster there few shows ranged) (served_of config w n h shows) is
+    exec_keeps w.events (w.nodes n) number work (start_of config w n h cluster there few shows ranged) (served_of config w n h cluster there shows) is
 node_keeps config w n h (node.Release number) work cluster there few shows ranged comes is = release_keeps w.events (w.nodes n) number work (start_of config w n h cluster there few shows ranged) is
 node_keeps config w n h (node.Serve number) work cluster there few shows ranged comes is = serve_keeps w.events (w.nodes n) number work (start_of config w n h cluster there few shows ranged) is
 
-client_keeps : (config : Config) (w : World) (l : ℕ) (h : Ghost) (e : ClientEvent) (move : ClientWork) → IsClient (w.clients l) → Shows config w h → IsRanged w
+client_keeps : (config : Config) (w : World) (l : ℕ) (h : Ghost) (e : ClientEvent) (move : ClientWork) → IsCluster config → IsClient (w.clients l) → Shows config w h
     → ComesToClient w e → client_step (w.clients l) e ≡ Some move → client_ranges.KeepsRanges move
-client_keeps config w l h client.Send move of shows ranged comes is = send_keeps (w.clients l) move of is
-client_keeps config w l h (client.Get envelope) move of shows ranged comes is =
-    get_keeps config w l comes.0 h envelope move shows of comes.1 (each_in IsRecord w.envelopes envelope ranged.envelopes (in_at w.envelopes comes.0 envelope comes.1)) is
+client_keeps config w l h client.Send move cluster of shows comes is = send_keeps (w.clients l) move of is
+client_keeps config w l h (client.Get envelope) move cluster of shows comes is = get_keeps config w l comes.0 h envelope move cluster shows of comes.1 is
 
 -- ---- both events
 
@@ -172,5 +186,5 @@ pub client_in_range : (config : Config) (w : World) (l : ℕ) (h : Ghost) (e : C
     → ComesToClient w e → client_step (w.clients l) e ≡ Some move
     → IsInRange move × IsRanged (posted config (record w { clients = put w.clients l move.client }) (Client l) (map output_of move.sent) move.notes)
 client_in_range config w l h e move cluster there shows ranged comes is =
-    let keeps = client_keeps config w l h e move (client_of config w l h cluster there shows) shows ranged comes is in
-    (keeps.within, client_posts config w l move ranged keeps.letters)
+    let keeps = client_keeps config w l h e move cluster (client_of config w l h cluster there shows (ranged.clients l)) shows comes is in
+    (keeps.within, client_posts config w l move ranged keeps.ranged keeps.letters)

@@ -1,5 +1,5 @@
 -- The four kinds of records that are sent here are within the ranges of the format where their fields are.
-use Rattle.std.proofs.Common.{◌≡◌, ◌≢◌, ℕ, ◌<◌, ◌^◌, true, not, ◌&&◌, ◌||◌, ◌==◌, nat_lt, cond, List, [], ◌∷◌, length, Option, Some, None, refl, ap, ◌∙◌, arith}
+use Rattle.std.proofs.Common.{◌≡◌, ◌≢◌, ℕ, ◌<◌, ◌≤◌, ◌^◌, true, not, ◌&&◌, ◌||◌, ◌==◌, nat_lt, cond, List, [], ◌∷◌, length, Option, Some, None, refl, ap, ◌∙◌, arith}
 use Rattle.std.proofs.lemmas.Bool.Decides.{nat_tests}
 use Rattle.fal_base.specs.declared.call.CallId.{CallId}
 use Rattle.fal_base.specs.declared.call.CallRec.{CallRec}
@@ -15,6 +15,7 @@ use Rattle.fal_base.specs.declared.reply.Reply.TheVariants.{Fine, Fail, Stat}
 use Rattle.fal_base.specs.Tree.{root_key, key_of}
 use Rattle.fal_base.specs.Walk.{dentry_of}
 use Rattle.fal_duty.specs.Duties.{found_of}
+use Rattle.fal_run.specs.Letters.{passed_on}
 use Rattle.fal_wire.specs.declared.message.Found.{Found}
 use Rattle.fal_wire.specs.declared.message.Found.TheVariants.{File, Dir}
 use Rattle.fal_wire.specs.declared.message.Message.TheVariants as message
@@ -82,6 +83,13 @@ got_dentry number key dentry fits = fits.fields.1.1
 pub id_of_call : (call : CallRec) → call_field.Fits call → id_field.Fits call.id
 unfolding call_field
 id_of_call call fits = fits.0
+
+-- a call that was not handed on too often can be handed on
+pub passed_fits : (call : CallRec) → call.id.hop ≤ 20000 → call_field.Fits call → call_field.Fits (passed_on call)
+unfolding call_field id_field
+passed_fits call few fits =
+    let id = fits.0 in
+    ((id.0, (id.1.0, (id.1.1.0, omega arith))), fits.1)
 
 -- ---- replies
 

@@ -1,5 +1,5 @@
 -- A node that serves an item or releases a batch keeps to the ranges.
-use Rattle.std.proofs.Common.{◌≡◌, ℕ, ◌+◌, ◌<◌, ◌≤◌, ◌^◌, true, false, cond, List, [], ◌∷◌, length, Option, Some, None, refl, sym, subst, arith}
+use Rattle.std.proofs.Common.{◌≡◌, ℕ, ◌+◌, ◌<◌, ◌≤◌, ◌^◌, IsSome, true, false, cond, List, [], ◌∷◌, length, Option, Some, None, refl, sym, subst, arith}
 use Rattle.std.specs.Prelude.{◌==◌}
 use Rattle.std.specs.List.{All}
 use Rattle.std.proofs.lemmas.Option.{same_Some}
@@ -14,34 +14,44 @@ use Rattle.fal_node.specs.declared.item.Item.{Item}
 use Rattle.fal_wire.specs.declared.letter.Letter.{Letter}
 use Rattle.fal_node.specs.Letters.{Work, begun, asker_of}
 use Rattle.fal_run.specs.Letters.{commits_in}
-use Rattle.fal_node.specs.Serve.{owns, can_serve, fetch_letter, fetch_service, lock_service, service_of, served_as, shutting, served, serve}
+use Rattle.fal_node.specs.Serve.{owns, can_serve, fetch_letter, fetch_service, lock_service, block_service, blocking, service_of, served_as, shutting, served, serve}
 use Rattle.fal_node.specs.State.{NodeState, batch_of, item_of, without_item, released}
 use Rattle.fal_node.specs.Step.{IsWithin, node_step, release, only_if}
-use Rattle.fal_place.specs.Placement.{owner}
+use Rattle.fal_inode.specs.Named.{rows_named}
+use Rattle.fal_place.specs.Placement.{Placement, owner}
 use Rattle.fal_wait.specs.Lists.{without_first}
 use Rattle.fal_wire.specs.declared.message.Message.{Message}
 use Rattle.fal_wire.specs.declared.message.Message.TheVariants as message
 use Rattle.fal_wire.specs.Messages.{Fits, FieldsFit}
 use Rattle.fal_wire.specs.Letters.{letter}
-use Rattle.fal_story.proofs.Lists.Each.{Each, each_weaker}
+use Rattle.fal_wire.specs.Rows.{changes_field}
+use Rattle.fal_story.proofs.Lists.Each.{Each}
 use Rattle.fal_story.proofs.Lists.EachAll.{all_of_each}
 use Rattle.fal_story.proofs.Lists.Members.{each_in, find_in, same_number, each_without_first}
-use Rattle.fal_story.proofs.Ranges.Bounds.{IsNodeRanged, IsNodeCounted, IsFirst, cancels, cancelling}
+use Rattle.fal_story.proofs.Ranges.Bounds.{IsNodeRanged, IsNodeCounted, cancels, cancelling}
 use Rattle.fal_story.proofs.Ranges.CoordWalks.{without_ranged}
 use Rattle.fal_story.proofs.Ranges.Counters.{cancelling_found}
+use Rattle.fal_story.proofs.Ranges.GivenRows.{left_ranged, left_sorted, named_ascend, named_fit, named_most}
 use Rattle.fal_story.proofs.Ranges.MessageRanges.{ask_fits, got_fits, ask_fields, found_fits}
 use Rattle.fal_story.proofs.Ranges.OperationRecords.{keys_are, lock_fields, locked_fits, node_fits, updates_fit}
+use Rattle.fal_story.proofs.Ranges.PlaceRecords.{block_fields, blocked_fits}
 use Rattle.fal_story.proofs.Ranges.RowCounts.{few_told, rows_told}
 use Rattle.fal_story.proofs.Ranges.WaitRanges.{fit_cancel}
 
--- the record can be spelled, and where it is a call to a node no one has passed it on
+-- the record can be spelled
 abbrev pub LetterFits : Letter → Type 0
-LetterFits letter = Fits letter.message × IsFirst letter.message letter.to
+LetterFits letter = Fits letter.message
 
 pub letters_fit : (letters : List Letter) → Each LetterFits letters → All (λ letter. Fits letter.message) letters
-letters_fit letters fits = all_of_each (λ (l : Letter). Fits l.message) letters (each_weaker LetterFits (λ (l : Letter). Fits l.message) letters (λ l h. h.0) fits)
+letters_fit letters fits = all_of_each LetterFits letters fits
 
--- what is known of a node before a step, after so many events of the cluster: at most 10,000 operations cancelled 16 fetches each
+-- the rules of a table can be spelled, and at most 10,000 were made
+pub record IsTableRanged (table : Placement) : Type 0 where
+  pub rules : changes_field.Fits table.rules
+  pub version : table.version ≤ 10000
+
+-- what is known of a node before a step, after so many events of the cluster: at most 10,000 operations cancelled 16 fetches each. Its rows are
+-- the tree's, of which each commit makes at most one, or are to be removed by an operation. A call is handed on at most once by each commit and placement
 pub record IsStart (events : ℕ) (x : NodeState) : Type 0 where
   pub few : events < 2 ^ 63
   pub ranged : IsNodeRanged x
@@ -53,6 +63,10 @@ pub record IsStart (events : ℕ) (x : NodeState) : Type 0 where
   pub calls : length x.waiting.calls ≤ 16
   pub pending : length x.waiting.fetches ≤ 16
   pub operation : x.last_operation ≤ 10000
+  pub rows : length x.rows ≤ 10003
+  pub parents : (key : Key) → IsSome (row_at x.rows key) → key.parent < 256 ^ 8
+  pub hops : Each (λ w. w.call.id.hop ≤ 20000) x.waiting.calls
+  pub table : IsTableRanged x.table
 
 -- the step after so many events is within the ranges, and leaves the node so
 pub record KeepsRanges (events : ℕ) (work : Work) : Type 0 where
@@ -83,7 +97,7 @@ counted_more events x counted =
     let items = counted.items in
     let batches = counted.batches in
     let fetches = counted.fetches in
-    record { tickets = omega arith; items = omega arith; batches = omega arith; fetches = omega arith; rows = counted.rows }
+    record { tickets = omega arith; items = omega arith; batches = omega arith; fetches = omega arith }
 
 -- nothing changes
 pub keeps_same : (events : ℕ) (x : NodeState) → IsStart events x → KeepsRanges events (begun x)
@@ -105,8 +119,8 @@ fetch_letter_fits : (x : NodeState) (asker number : ℕ) (key : Key) → IsNodeR
 fetch_letter_fits x asker number key ranged fits =
     let fields = ask_fields asker number key fits in
     elim (owns x key) as (λ b. LetterFits (cond b (letter (asker_of asker) (Here 0) (fetched_of x.rows number key)) (letter (Node (owner x.table key)) (Here 0) (message.FetchAsk asker number key)))) [
-      | true ↦ (got_fits number key (found_of (row_at x.rows key)) fields.number_in_range fields.key_in_range (found_fits (row_at x.rows key) (ranged.rows key)), tt)
-      | false ↦ (ask_fits asker number key fields.asker_in_range fields.number_in_range fields.key_in_range, tt)
+      | true ↦ got_fits number key (found_of (row_at x.rows key)) fields.number_in_range fields.key_in_range (found_fits (row_at x.rows key) (ranged.rows key))
+      | false ↦ ask_fits asker number key fields.asker_in_range fields.number_in_range fields.key_in_range
     ]
 
 -- the item that is served is the one that goes
@@ -123,10 +137,9 @@ fetch_keeps events x number asker fetch key start fits gone =
     let ranged = start.ranged in
     let more = counted_more events x start.counted in
     let fetches = more.fetches in
-    let rows = more.rows in
     let letters : Each LetterFits (fetch_letter x asker fetch key ∷ []) = (fetch_letter_fits x asker fetch key ranged fits, tt) in
     let work = served_as (fetch_service x asker fetch key) number in
-    let now : IsNodeCounted (events + 1) (without_item x number) = record { tickets = more.tickets; items = more.items; batches = more.batches; fetches = omega arith; rows = omega arith } in
+    let now : IsNodeCounted (events + 1) (without_item x number) = record { tickets = more.tickets; items = more.items; batches = more.batches; fetches = omega arith } in
     record {
       within = within events work few now letters (omega arith) start.number (omega arith) (omega arith);
       letters = letters;
@@ -152,15 +165,14 @@ lock_keeps events x number operation keys start fits gone =
     let ranged = start.ranged in
     let more = counted_more events x start.counted in
     let fetches = more.fetches in
-    let rows = more.rows in
     let fields = lock_fields operation keys fits in
     let are = keys_are keys fields.1 in
     let few_keys = are.few in
     let few_rows = few_told x.table x.rows x.number keys in
     let told = updates_fit (rows_of x.table x.rows x.number keys) (omega arith) (rows_told x.table x.rows x.number keys ranged.rows are.fit) in
     let work = served_as (lock_service x operation keys) number in
-    let letters : Each LetterFits work.sent = ((locked_fits operation x.number (rows_of x.table x.rows x.number keys) fields.0 (node_fits x.number start.number) told, tt), tt) in
-    let now : IsNodeCounted (events + 1) work.node = record { tickets = more.tickets; items = more.items; batches = more.batches; fetches = omega arith; rows = omega arith } in
+    let letters : Each LetterFits work.sent = (locked_fits operation x.number (rows_of x.table x.rows x.number keys) fields.0 (node_fits x.number start.number) told, tt) in
+    let now : IsNodeCounted (events + 1) work.node = record { tickets = more.tickets; items = more.items; batches = more.batches; fetches = omega arith } in
     record {
       within = within events work few now letters (omega arith) start.number (omega arith) (omega arith);
       letters = letters;
@@ -175,9 +187,43 @@ lock_keeps events x number operation keys start fits gone =
       counted = now;
     }
 
+-- the rows of the name are told, and leave
+block_keeps : (events : ℕ) (x : NodeState) (number operation : ℕ) (name : List ℕ) → IsStart events x → FieldsFit (message.Block operation name) → IsGone x number (message.Block operation name)
+    → KeepsRanges events (served_as (block_service x operation name) number)
+unfolding without_item blocking
+block_keeps events x number operation name start fits gone =
+    let few = start.few in
+    let drawn = start.drawn in
+    let opened = start.opened in
+    let ranged = start.ranged in
+    let more = counted_more events x start.counted in
+    let fetches = more.fetches in
+    let few_rows = start.rows in
+    let given = rows_named x.rows name in
+    let few_given = named_most x.rows name in
+    let fields = block_fields operation name fits in
+    let work = served_as (block_service x operation name) number in
+    let letters : Each LetterFits work.sent =
+    (blocked_fits operation x.number given fields.0 (node_fits x.number start.number) (omega arith) (named_fit x.rows name ranged.sorted ranged.rows start.parents) (named_ascend x.rows name ranged.sorted), tt) in
+    let now : IsNodeCounted (events + 1) work.node = record { tickets = more.tickets; items = more.items; batches = more.batches; fetches = omega arith } in
+    record {
+      within = within events work few now letters (omega arith) start.number (omega arith) (omega arith);
+      letters = letters;
+      ranged = record {
+        rows = left_ranged x.rows name ranged.rows;
+        sorted = left_sorted x.rows name ranged.sorted;
+        replica = ranged.replica;
+        waiting = ranged.waiting;
+        items = each_without_first _ _ x.items ranged.items;
+        batches = ranged.batches;
+      };
+      counted = now;
+    }
+
 service_keeps : (events : ℕ) (x : NodeState) (number : ℕ) (m : Message) → IsStart events x → FieldsFit m → IsGone x number m → (service_of x m).can ≡ true → KeepsRanges events (served_as (service_of x m) number)
 service_keeps events x number (message.FetchAsk asker fetch key) start fits gone can = fetch_keeps events x number asker fetch key start fits gone
 service_keeps events x number (message.Lock operation keys) start fits gone can = lock_keeps events x number operation keys start fits gone
+service_keeps events x number (message.Block operation name) start fits gone can = block_keeps events x number operation name start fits gone
 service_keeps events x number other start fits gone can = absurd (cc)
 
 serve_found : (events : ℕ) (x : NodeState) (item : Option Item) (work : Work) → IsStart events x → ((i : Item) → item ≡ Some i → FieldsFit i.message × IsGone x i.number i.message) → serve x item ≡ Some work → KeepsRanges events work
@@ -211,7 +257,7 @@ released_keeps events x number start =
     let opened = start.opened in
     let ranged = start.ranged in
     let more = counted_more events x start.counted in
-    let now : IsNodeCounted (events + 1) (released x number) = record { tickets = more.tickets; items = more.items; batches = more.batches; fetches = more.fetches; rows = more.rows } in
+    let now : IsNodeCounted (events + 1) (released x number) = record { tickets = more.tickets; items = more.items; batches = more.batches; fetches = more.fetches } in
     record {
       within = within events (begun (released x number)) few now tt (omega arith) start.number (omega arith) (omega arith);
       letters = tt;

@@ -89,11 +89,11 @@ rows_of_updates (u ∷ us) fits = (fits.0.1, rows_of_updates us fits.1)
 
 -- ---- how long
 
-operation_short : IsShort ℕ operation_field 4
+pub operation_short : IsShort ℕ operation_field 4
 unfolding operation_field
 operation_short = judged_short _ (number_short 4)
 
-node_short : IsShort ℕ node_field 1
+pub node_short : IsShort ℕ node_field 1
 unfolding node_field
 node_short = judged_short _ byte_short
 
@@ -172,7 +172,7 @@ commit_short : IsShort (ℕ × List Update) commit_body 589
 unfolding commit_body
 commit_short = both_short operation_short updates_short
 
-done_short : IsShort (ℕ × ℕ) done_body 5
+pub done_short : IsShort (ℕ × ℕ) done_body 5
 unfolding done_body
 done_short = both_short operation_short node_short
 

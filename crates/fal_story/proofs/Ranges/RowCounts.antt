@@ -1,39 +1,38 @@
 -- How many rows there are after changes, and what stands in them then.
-use Rattle.std.proofs.Common.{◌≡◌, ⊎_elim, ℕ, suc, ◌+◌, ◌≤◌, ◌==◌, Bool, true, false, not, cond, List, [], ◌∷◌, length, filter, Option, Some, None, refl, sym, ap, ◌∙◌, arith}
+use Rattle.std.proofs.Common.{◌≡◌, ◌≢◌, ⊎_elim, ℕ, suc, ◌+◌, ◌≤◌, ◌==◌, Bool, true, false, not, cond, List, [], ◌∷◌, length, filter, Option, Some, None, refl, sym, ap, ◌∙◌, arith, true≢false}
+use Rattle.std.specs.Cmp.{tied_itself}
+use Rattle.std.specs.FinMap.Entries.{below_all, is_sorted, length-put}
+use Rattle.std.specs.Ordering.{is_lt}
 use Rattle.std.specs.Prelude.{is_some}
-use Rattle.std.specs.FinMap.Entries.{length-put}
 use Rattle.std.proofs.lemmas.List.{length-map}
 use Rattle.fal_base.specs.declared.inode.Inode.{Inode}
 use Rattle.fal_base.specs.declared.key.Key.{Key}
 use Rattle.fal_base.specs.declared.row.Update.{Update}
 use Rattle.fal_base.specs.Tree.{Tree, key_cmp, row_at, same_key, with_row, without_row, names_under, IsInOrder}
 use Rattle.fal_base.specs.Updates.{laid, laid_at}
+use Rattle.fal_base.proofs.Maps.{same_key_is}
 use Rattle.fal_base.proofs.Order.{key_cmp_total, held, in_order_with, in_order_without}
 use Rattle.fal_base.proofs.Updates.{laid_cases}
-use Rattle.fal_base.specs.declared.op.Op.{Op}
+use Rattle.fal_batch.proofs.Truth.{both_first, both_second}
 use Rattle.fal_duty.specs.Duties.{owned, rows_of}
 use Rattle.fal_exec.specs.declared.outcome.Change.{Change}
 use Rattle.fal_exec.specs.declared.outcome.Change.TheVariants.{Keep, Put, Remove}
 use Rattle.fal_place.specs.Placement.{Placement, owner}
-use Rattle.fal_run.specs.Calls.{is_making, draws, drawn_by}
 use Rattle.fal_run.specs.Rows.{rows_after}
 use Rattle.fal_wire.specs.Names.{key_field}
 use Rattle.fal_wire.specs.Rows.{inode_field, row_field}
-use Rattle.fal_story.proofs.Lists.Each.{Each}
+use Rattle.fal_story.proofs.Lists.Each.{Each, each_both}
 use Rattle.fal_story.proofs.Ranges.CoordBounds.{RowsFit}
+use Rattle.fal_story.proofs.Ranges.NoMore.{Differ}
 use Rattle.fal_story.proofs.Ranges.OperationRecords.{UpdateFits}
-use Rattle.fal_story.proofs.Ranges.RowRanges.{AreRowsRanged, ChangeFits}
+use Rattle.fal_story.proofs.Ranges.RowRanges.{AreRowsRanged}
+use Rattle.fal_story.proofs.Steps.Reads.{not_true}
 
 pub fewer_kept : {A : Type 0} (p : A → Bool) (xs : List A) → length (filter p xs) ≤ length xs
 fewer_kept p [] = omega arith
 fewer_kept p (x ∷ xs) = let h = fewer_kept p xs in elim (p x) as (λ b. length (cond b (x ∷ filter p xs) (filter p xs)) ≤ suc (length xs)) [ true ↦ omega arith | false ↦ omega arith ]
 
 -- ---- one row
-
--- a row that is put where one stood is no more
-pub with_there : (rows : Tree) (key : Key) (inode : Inode) → IsInOrder rows → is_some (row_at rows key) ≡ true → length (with_row rows key inode) ≡ length rows
-with_there rows key inode sorted there =
-    length-put key_cmp key_cmp_total key inode rows (held _ sorted) ∙ ap (λ b. cond b (length rows) (length rows + 1)) there
 
 pub with_most : (rows : Tree) (key : Key) (inode : Inode) → IsInOrder rows → length (with_row rows key inode) ≤ length rows + 1
 with_most rows key inode sorted =
@@ -47,15 +46,6 @@ with_most rows key inode sorted =
 pub without_most : (rows : Tree) (key : Key) → length (without_row rows key) ≤ length rows
 without_most rows key = fewer_kept (λ (e : Key × Inode). not (same_key key e.0)) rows
 
--- a call makes no more rows than it draws numbers
-pub after_most : (rows : Tree) (key : Key) (op : Op) (change : Change) → ChangeFits (is_making op) (row_at rows key) change → IsInOrder rows → length (rows_after rows key change) ≤ length rows + drawn_by op change
-after_most rows key op Keep fits sorted = omega arith
-after_most rows key op (Put inode) fits sorted = ⊎_elim
-    (λ making. let most = with_most rows key inode sorted in let one : draws op ≡ 1 = ap (λ b. cond b 1 0) making in omega arith)
-    (λ there. let same = with_there rows key inode sorted there in omega arith)
-    fits.1
-after_most rows key op Remove fits sorted = let most = without_most rows key in omega arith
-
 pub after_sorted : (rows : Tree) (key : Key) (change : Change) → IsInOrder rows → IsInOrder (rows_after rows key change)
 after_sorted rows key Keep sorted = sorted
 after_sorted rows key (Put inode) sorted = in_order_with rows key inode sorted
@@ -63,20 +53,9 @@ after_sorted rows key Remove sorted = in_order_without rows key sorted
 
 -- ---- updates
 
-at_most : (rows : Tree) (key : Key) (row : Option Inode) → IsInOrder rows → length (laid_at rows key row) ≤ length rows + 1
-at_most rows key None sorted = let h = without_most rows key in omega arith
-at_most rows key (Some inode) sorted = with_most rows key inode sorted
-
 at_sorted : (rows : Tree) (key : Key) (row : Option Inode) → IsInOrder rows → IsInOrder (laid_at rows key row)
 at_sorted rows key None sorted = in_order_without rows key sorted
 at_sorted rows key (Some inode) sorted = in_order_with rows key inode sorted
-
-pub laid_most : (updates : List Update) (rows : Tree) → IsInOrder rows → length (laid updates rows) ≤ length rows + length updates
-laid_most [] rows sorted = omega arith
-laid_most (u ∷ us) rows sorted =
-    let one = at_most rows u.key u.row sorted in
-    let rest = laid_most us (laid_at rows u.key u.row) (at_sorted rows u.key u.row sorted) in
-    omega arith
 
 pub laid_sorted : (updates : List Update) (rows : Tree) → IsInOrder rows → IsInOrder (laid updates rows)
 laid_sorted [] rows sorted = sorted
@@ -95,12 +74,6 @@ laid_ranged [] rows fits ranged = ranged
 laid_ranged (u ∷ us) rows fits ranged =
     laid_ranged us (laid_at rows u.key u.row) fits.1
     (λ key inode is. ⊎_elim (λ x. row_fits u.row inode (sym x.1 ∙ is) fits.0) (λ x. ranged key inode (sym x.1 ∙ is)) (laid_cases rows u.key key u.row))
-
-pub owned_most : (table : Placement) (n : ℕ) (updates : List Update) → length (owned table n updates) ≤ length updates
-owned_most table n [] = omega arith
-owned_most table n (u ∷ us) =
-    let h = owned_most table n us in
-    elim (owner table u.key == n) as (λ b. length (cond b (u ∷ owned table n us) (owned table n us)) ≤ suc (length us)) [ true ↦ omega arith | false ↦ omega arith ]
 
 pub owned_fit : (table : Placement) (n : ℕ) (updates : List Update) → RowsFit updates → RowsFit (owned table n updates)
 owned_fit table n [] fits = tt
@@ -128,6 +101,37 @@ few_told table rows n [] = omega arith
 few_told table rows n (key ∷ keys) =
     let h = few_told table rows n keys in
     elim (owner table key == n) as (λ b. length (cond b (record { key = key; row = row_at rows key } ∷ rows_of table rows n keys) (rows_of table rows n keys)) ≤ suc (length keys)) [ true ↦ omega arith | false ↦ omega arith ]
+
+-- ---- rows in order
+
+below_apart : (key : Key) (rows : Tree) → below_all key_cmp key rows ≡ true → Each (λ (e : Key × Inode). e.0 ≢ key) rows
+below_apart key [] below = tt
+below_apart key (e ∷ es) below = (
+  λ same.
+      let tied : is_lt (key_cmp key e.0) ≡ false = ap (λ k. is_lt (key_cmp key k)) same ∙ ap is_lt (tied_itself key_cmp_total key) in
+      true≢false (sym (both_first (is_lt (key_cmp key e.0)) (below_all key_cmp key es) below) ∙ tied),
+  below_apart key es (both_second (is_lt (key_cmp key e.0)) (below_all key_cmp key es) below),
+)
+
+-- rows in order stand under different keys
+pub keys_differ : (rows : Tree) → IsInOrder rows → Differ (λ (e : Key × Inode). e.0) rows
+keys_differ [] sorted = tt
+keys_differ (e ∷ es) sorted =
+    let below = both_first (below_all key_cmp e.0 es) (is_sorted key_cmp es) sorted in
+    (below_apart e.0 es below, keys_differ es (both_second (below_all key_cmp e.0 es) (is_sorted key_cmp es) sorted))
+
+past_head : (e f : Key × Inode) (es : Tree) → f.0 ≢ e.0 → row_at es f.0 ≡ Some f.1 → row_at (e ∷ es) f.0 ≡ Some f.1
+past_head e f es apart at = ap (λ b. cond b (Some e.1) (row_at es f.0)) (not_true (same_key f.0 e.0) (λ same. apart ((same_key_is f.0 e.0).0 same))) ∙ at
+
+-- each is the one under its key
+pub entry_at : (rows : Tree) → IsInOrder rows → Each (λ (e : Key × Inode). row_at rows e.0 ≡ Some e.1) rows
+entry_at [] sorted = tt
+entry_at (e ∷ es) sorted =
+    let differ = keys_differ (e ∷ es) sorted in
+    let rest = entry_at es (both_second (below_all key_cmp e.0 es) (is_sorted key_cmp es) sorted) in (
+      ap (λ b. cond b (Some e.1) (row_at es e.0)) ((same_key_is e.0 e.0).1 refl),
+      each_both _ _ _ es (λ f apart at. past_head e f es apart at) differ.0 rest,
+    )
 
 -- ---- names under a directory
 

@@ -168,6 +168,7 @@ outcome_ranged row parent cred (op.Unlink path) fresh rows served of_cred of_op 
     found_ranged false row (unlink_outcome parent cred) (λ inode is. checked_ranged false row ((not (kept_grants cred 2 parent), Eacces) ∷ (is_dir inode, Eperm) ∷ []) (Finish Fine Remove) (fine_fits, tt))
 outcome_ranged row parent cred (op.Rmdir path) fresh rows served of_cred of_op of_fresh = (fine_fits, tt)
 outcome_ranged row parent cred (op.Rename old new) fresh rows served of_cred of_op of_fresh = (fine_fits, tt)
+outcome_ranged row parent cred (op.Place name rule) fresh rows served of_cred of_op of_fresh = (fine_fits, tt)
 outcome_ranged row parent cred other fresh rows served of_cred of_op of_fresh = absurd (cc)
 
 pub call_ranged : (node : ℕ) (rows : Tree) (drawn : ℕ) (x : BatchCall) → AreRowsRanged rows → is_served x.call.op ≡ true → call_field.Fits x.call → ino_field.Fits (number_after node drawn)

@@ -22,9 +22,10 @@ use Rattle.fal_story.proofs.Families.Plans.{plans_called, plans_put}
 use Rattle.fal_story.proofs.Families.Records.{records_handed, records_idle, records_sent, records_taken}
 use Rattle.fal_story.proofs.Families.Script.{script_answered, script_sent, script_handed, script_put}
 use Rattle.fal_story.proofs.Good.{Good}
-use Rattle.fal_story.proofs.Lists.Grown.{put_all, put_other}
+use Rattle.fal_story.proofs.Lists.Grown.{put_all, put_other, put_same}
 use Rattle.fal_story.proofs.Phase.{Phase, Idle, Asked, Waits, Plans, Runs, Tells, Replies, IsFor, IsPast, IsSteady, IsTaken, IsUnanswered, steady_same}
-use Rattle.fal_story.proofs.View.{IsPosted, plain, View, now}
+use Rattle.fal_story.proofs.Steps.Posted.{posted_good}
+use Rattle.fal_story.proofs.View.{IsPosted, plain, post, View, now}
 use Rattle.fal_story.specs.Clusters.{is_served}
 use Rattle.fal_story.specs.World.{put}
 
@@ -127,6 +128,19 @@ passed_good config v l n m is below under other owns first g =
       bars = bars_put g.bars l (Asked m) tt;
       knowing = knowing_handed g.knowing l c (Asked m) refl refl (λ e. absurd (subst IsUnanswered e live)) (subst Untold (sym is) tt) tt;
     }
+
+-- as one event's part: the call is handed on, and its record goes to the node
+pub passed_sent_good : (config : Config) (v : View) (n m point : ℕ) (call : CallRec) → v.phase call.id.client ≡ Waits n None → call ≡ v.call call.id.client → n < config.nodes → m < config.nodes → (OwnsLast v.map.table (now v) n call → ⊥)
+    → OwnsLast v.map.table (now v) m call → (call.id.hop ≡ 0 → 1 ≤ v.map.table.version) → Good config v
+    → Good config (record v { call = put v.call call.id.client (handed call); phase = put v.phase call.id.client (Asked m); posts = v.posts ++ post (Node m) point (message.Call (handed call)) ∷ [] })
+passed_sent_good config v n m point call is same below under other owns first g =
+    let l = call.id.client in
+    let c = handed call in
+    let of_view = λ (P : CallRec → Type 0) (p : P call). subst P same p in
+    let passed = passed_good config v l n m is below under (of_view (λ d. OwnsLast v.map.table (now v) n d → ⊥) other) (of_view (λ d. OwnsLast v.map.table (now v) m d) owns) (of_view (λ d. d.id.hop ≡ 0 → 1 ≤ v.map.table.version) first) g in
+    let here : Good config (record v { call = put v.call l c; phase = put v.phase l (Asked m) }) = subst (λ (d : CallRec). Good config (record v { call = put v.call l (handed d); phase = put v.phase l (Asked m) })) (sym same) passed in
+    posted_good config (record v { call = put v.call l c; phase = put v.phase l (Asked m) }) (Node m) point (message.Call c)
+    (record { asking = tt; records = (m, refl, inl (sym (put_same v.call l c), put_same v.phase l (Asked m))); bars = tt; knowing = tt; operation = tt }) here
 
 -- the lane's call is answered
 pub heard_good : (config : Config) (v : View) (l k : ℕ) (reply : Reply) → v.phase l ≡ Tells (Replies k reply) → Good config v

@@ -16,7 +16,8 @@ use Rattle.fal_place.proofs.Tables.{owner_other}
 use Rattle.fal_story.proofs.Lists.Grown.{put_same}
 use Rattle.fal_story.proofs.View.{IsPosted, post, View, Work, Blocks, Lands}
 use Rattle.fal_story.specs.World.{put}
-use Rattle.fal_story.proofs.Families.Bars.{Bar, BlocksName, IsBarred, IsGrown, ToldBlocked, ToldInstall, ToldInstalled, barred_by, puts}
+use Rattle.fal_story.proofs.Families.Bars.{Bar, BlocksName, IsBarred, IsGrown, ToldBlocked, ToldInstall, ToldInstalled, barred_by}
+use Rattle.fal_inode.specs.Named.{puts}
 use Rattle.fal_story.proofs.Good.{Good}
 use Rattle.fal_story.proofs.Phase.{Plans}
 use Rattle.fal_story.proofs.Steps.Placed.{blocked_good}
@@ -37,6 +38,21 @@ owner_at table operation n other own barred queued last due key bar grown open' 
 -- where a key's name is not barred at a node, the node's own table and the recorded one give it one owner
 pub same_owner : (config : Config) (v : View) (n : ℕ) (key : Key) → n < config.nodes → (IsBarred (v.map.barred n) key.name → ⊥) → Good config v → owner (v.map.tables n) key ≡ owner v.map.table key
 same_owner config v n key below open' g = owner_at v.map.table v.op.operation n v.op.work (v.map.tables n) (v.map.barred n) (v.op.queued n) (v.op.last n) (v.op.due n) key (g.bars.stands n below) g.bars.grown open'
+
+-- the nodes do not take another table
+abbrev pub IsSettled : Work → Type 0
+IsSettled (Lands name rule old missing) = ⊥
+IsSettled other = Unit {0}
+
+settled_at : (table : Placement) (operation n : ℕ) (work : Work) (own : Placement) (barred : Option (ℕ × List ℕ)) (queued : Option Message) (last : ℕ) (due : List Update) → IsSettled work → Bar table operation work n own barred queued last due → own ≡ table
+settled_at table operation n (Blocks lane name rule missing came) own barred queued last due settled bar = bar.0
+settled_at table operation n (Lands name rule old missing) own barred queued last due settled bar = absurd settled
+settled_at table operation n other own barred queued last due settled bar = bar.0
+
+-- then a node's own table is the recorded one
+pub settled_table : (config : Config) (v : View) (n : ℕ) {work : Work} → v.op.work ≡ work → IsSettled work → n < config.nodes → Good config v → v.map.tables n ≡ v.map.table
+settled_table config v n is settled below g =
+    settled_at v.map.table v.op.operation n v.op.work (v.map.tables n) (v.map.barred n) (v.op.queued n) (v.op.last n) (v.op.due n) (subst IsSettled (sym is) settled) (g.bars.stands n below)
 
 same_node : (a b : ℕ) → Node a ≡ Node b → a ≡ b
 same_node a b e = cc

@@ -110,6 +110,10 @@ own_here config v l n x is ready g =
     let plan = (planned_here config v l n x false is ready g).1.1 in
     (plan.2, g.clear.ways l n x.last (subst (IsCrossing n) (sym is) refl) plan.3)
 
+-- and it rests on it
+pub last_crossed : (config : Config) (v : View) (l n : ℕ) (x : BatchCall) → v.phase l ≡ Plans n x → x.denied ≡ false → Good config v → is_among x.last (v.op.crossed l) ≡ true
+last_crossed config v l n x is ready g = (planned_here config v l n x false is ready g).1.1.3
+
 off_due : (config : Config) (v : View) (l n : ℕ) (x : BatchCall) → v.phase l ≡ Plans n x → x.denied ≡ false → Good config v → is_among x.last (keys_of (v.op.due n)) ≡ false
 off_due config v l n x is ready g = none_due config v n x.last (g.plans.planned l n x is).0 (own_here config v l n x is ready g).1 (g.bars.clear l n x is ready) g
 

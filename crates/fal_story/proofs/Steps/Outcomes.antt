@@ -68,6 +68,7 @@ outcome_ends row parent cred (op.Unlink path) fresh served =
     end_found row (unlink_outcome parent cred) (λ inode. end_checked ((not (kept_grants cred 2 parent), Eacces) ∷ (is_dir inode, Eperm) ∷ []) _ (inl (Fine, (change.Remove, refl))))
 outcome_ends row parent cred (op.Rmdir path) fresh served = end_kept Fine
 outcome_ends row parent cred (op.Rename old new) fresh served = end_kept Fine
+outcome_ends row parent cred (op.Place name rule) fresh served = end_kept Fine
 outcome_ends row parent cred other fresh served = absurd (cc)
 
 -- ---- a row that changes
@@ -117,6 +118,7 @@ off_dirs row parent cred (op.Chown path uid gid) fresh served =
     keeps_found _ row _ (λ inode there. keeps_after _ (not (cred.uid == 0)) Eperm _ (λ _. keeps_changed row inode (record inode { uid = uid; gid = gid }) there))
 off_dirs row parent cred (op.Rmdir path) fresh served = keeps _ Fine
 off_dirs row parent cred (op.Rename old new) fresh served = keeps _ Fine
+off_dirs row parent cred (op.Place name rule) fresh served = keeps _ Fine
 off_dirs row parent cred other fresh served = absurd (cc)
 
 -- where a served call changes its row, no directory stands there

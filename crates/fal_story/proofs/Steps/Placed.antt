@@ -26,7 +26,8 @@ use Rattle.fal_story.proofs.Families.Lanes.{lanes_placed, lanes_put, positive}
 use Rattle.fal_story.specs.World.{put}
 use Rattle.fal_story.proofs.Families.Asking.{asking_put, asking_retabled}
 use Rattle.fal_story.proofs.Families.Barring.{bars_put, below_or}
-use Rattle.fal_story.proofs.Families.Bars.{AreNamed, Bar, IsBarred, barred_by, puts}
+use Rattle.fal_story.proofs.Families.Bars.{AreNamed, Bar, IsBarred, barred_by}
+use Rattle.fal_inode.specs.Named.{puts}
 use Rattle.fal_story.proofs.Families.Clear.{clear_put}
 use Rattle.fal_story.proofs.Good.{Good}
 use Rattle.fal_story.proofs.Families.Ground.{ground_reopened}
@@ -39,7 +40,7 @@ use Rattle.fal_story.proofs.Families.Records.{records_moved}
 use Rattle.fal_story.proofs.Families.GroundPlaces.{IsTakenOut, ground_blocked, ground_placed}
 use Rattle.fal_story.proofs.Families.Placements.{answer_tells}
 use Rattle.fal_story.proofs.Families.Script.{script_placed, script_put}
-use Rattle.fal_story.proofs.Trees.PlaceAnswers.{table_reply}
+use Rattle.fal_story.proofs.Trees.PlaceAnswers.{fine_within, table_reply}
 use Rattle.fal_story.proofs.Families.OperationPlaces.{operation_placing, operation_blocking, operation_name_placed, operation_landing, operation_landed}
 use Rattle.fal_story.proofs.View.{View, Rests, Blocks, Lands, now}
 
@@ -179,7 +180,7 @@ module _ (config : Config) (v : View) where
               (sym (answer_tells g.script.placements v.map.table (v.call l).cred name rule g.knowing.recorded) ∙ fine);
           records = records_moved g.records (put v.phase l (Tells (Replies k reply))) (goes_put v.phase l (Tells (Replies k reply)) live) (stays_put v.phase l (Tells (Replies k reply)) (subst IsTaken (sym runs) tt));
           operation = operation_name_placed g.operation l name rule [] (numbers_below config.nodes) came table_now v.map.table (λ n. owned table_now n kept) k reply is;
-          knowing = knowing_put (knowing_placed g.knowing (record { name = name; rule = rule })) l (Tells (Replies k reply)) (λ e. absurd (subst IsUnanswered e live)) (subst Untold (sym runs) tt) tt;
+          knowing = knowing_put (knowing_placed g.knowing (record { name = name; rule = rule }) (fine_within config.nodes v.map.table (v.call l).cred name rule fine)) l (Tells (Replies k reply)) (λ e. absurd (subst IsUnanswered e live)) (subst Untold (sym runs) tt) tt;
           bars = bars_put (bars_placed g.bars l name rule came kept is named) l (Tells (Replies k reply)) tt;
         }
 

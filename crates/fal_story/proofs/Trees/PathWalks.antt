@@ -17,7 +17,7 @@ use Rattle.fal_base.specs.Answer.{answer, walked, is_root}
 use Rattle.fal_base.specs.Change.{makes, changes, is_fine}
 use Rattle.fal_base.specs.Tree.{Tree}
 use Rattle.fal_base.specs.Walk.{Walked, Stop, Ready, walk}
-use Rattle.fal_coord.specs.Walks.{walked_paths, is_busy, is_operation}
+use Rattle.fal_coord.specs.Walks.{walked_paths, is_busy, is_walking}
 use Rattle.fal_dentry.specs.TreeWalk.{way}
 use Rattle.fal_dentry.specs.Walk.{is_among}
 use Rattle.fal_exec.proofs.Stopped.{stopped_answer}
@@ -137,7 +137,7 @@ failed_makes tree cred call errno fails = ap (λ reply. changes tree cred call &
 -- ---- an operation
 
 -- of an operation, but of one on the root, these are the paths that the coordinator walks
-pub operation_paths_are : (call : Op) → is_operation call ≡ true → is_busy call ≡ false → call_paths call ≡ walked_paths call
+pub operation_paths_are : (call : Op) → is_walking call ≡ true → is_busy call ≡ false → call_paths call ≡ walked_paths call
 operation_paths_are (op.Chmod (Good path) mode) is busy = refl
 operation_paths_are (op.Chown (Good path) uid gid) is busy = refl
 operation_paths_are (op.Rmdir (Good path)) is busy = ap (λ b. if b then [] else path ∷ []) busy

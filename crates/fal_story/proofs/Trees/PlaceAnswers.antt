@@ -1,6 +1,6 @@
 -- What a change of placement is answered, over a transcript that grows: what was right stays right.
 use Rattle.std.proofs.Common.{◌≡◌, ◌≢◌, ◌⊎◌, inl, inr, ⊎_elim, ℕ, ◌+◌, ◌<◌, ◌≤◌, true, false, not, ◌&&◌, cond, List, [], ◌∷◌, ◌++◌, length, nat_le, Some, refl, sym, ap, ◌∙◌, subst, arith, take}
-use Rattle.std.specs.Prelude.{slice_get, count_by, ◌==◌, ◌↔◌}
+use Rattle.std.specs.Prelude.{slice_get, IsTrue, count_by, ◌==◌, ◌↔◌}
 use Rattle.std.proofs.lemmas.Bool.Decides.{nat_tests, eqb_tells, leb_tells}
 use Rattle.std.proofs.lemmas.List.{length_push, take-append-le}
 use Rattle.std.proofs.Math.Seq.{take-append_seam}
@@ -129,6 +129,14 @@ table_answer nodes names table cred name rule few is =
     let out = within_is rule nodes in
     let full = table_full names table name few is in
     λ i. checked ((not (cred.uid == 0), Eperm) ∷ (out i, Einval) ∷ (full i, Enospc) ∷ []) Fine
+
+-- a change that is answered ok is of nodes that are there
+pub fine_within : (nodes : ℕ) (table : Placement) (cred : Cred) (name : List ℕ) (rule : Rule) → table_reply nodes table cred name rule ≡ Fine → IsTrue (is_within nodes rule)
+fine_within nodes table cred name rule =
+    elim (not (cred.uid == 0)) as (λ b. cond b (Fail Eperm) (cond (not (is_within nodes rule)) (Fail Einval) (cond (is_full_for table name) (Fail Enospc) Fine)) ≡ Fine → IsTrue (is_within nodes rule)) [
+      | true ↦ λ wrong. absurd (cc)
+      | false ↦ elim (is_within nodes rule) as (λ b. cond (not b) (Fail Einval) (cond (is_full_for table name) (Fail Enospc) Fine) ≡ Fine → IsTrue b) [ true ↦ λ _. refl | false ↦ λ wrong. absurd (cc) ]
+    ]
 
 -- ---- the answer under way
 

@@ -128,9 +128,9 @@ abbrev rules_of : List ℕ → List RuleChange → List RuleChange
 rules_of name rules = filter (λ change. same_name change.name name) rules
 
 -- the rules are of these names, one of each
-record AreOf (names : List (List ℕ)) (rules : List RuleChange) : Type 0 where
-  count : length rules ≡ length names
-  once : (name : List ℕ) → length (rules_of name rules) ≡ cond (is_ruled name names) 1 0
+pub record AreOf (names : List (List ℕ)) (rules : List RuleChange) : Type 0 where
+  pub count : length rules ≡ length names
+  pub once : (name : List ℕ) → length (rules_of name rules) ≡ cond (is_ruled name names) 1 0
 
 inserted : (test : RuleChange → Bool) (change : RuleChange) (rules : List RuleChange) → length (filter test (insert_by_version change rules)) ≡ cond (test change) 1 0 + length (filter test rules)
 inserted test change [] = elim (test change) as (λ b. length (cond b (change ∷ []) []) ≡ cond b 1 0 + 0) [ true ↦ refl | false ↦ refl ]
@@ -209,7 +209,7 @@ of_with names rules change are =
     or_none true = refl
     or_none false = refl
 
-of_after : (names : List (List ℕ)) (table : Placement) (placings : List Placing) → AreOf names table.rules → AreOf (names_after names placings) (after_placings table placings).rules
+pub of_after : (names : List (List ℕ)) (table : Placement) (placings : List Placing) → AreOf names table.rules → AreOf (names_after names placings) (after_placings table placings).rules
 of_after names table [] are = are
 of_after names table (placing ∷ placings) are =
     of_after (with_name names (placing.name ∷ [])) (with_rule table placing.name placing.rule) placings

@@ -1,11 +1,10 @@
 -- The rows of all nodes together are the tree that the commits leave.
-use Rattle.std.proofs.Common.{◌≡◌, ◌≢◌, ◌⊎◌, inl, inr, ◌&&◌, ⊎_elim, ℕ, zero, suc, ◌+◌, ◌%◌, ◌<◌, ◌≤◌, Bool, true, false, cond, List, [], ◌∷◌, length, Option, Some, None, refl, sym, ap, ◌∙◌, subst, arith}
+use Rattle.std.proofs.Common.{◌≡◌, ◌≢◌, ◌⊎◌, inl, inr, ◌&&◌, ⊎_elim, ℕ, zero, suc, ◌+◌, ◌<◌, ◌≤◌, Bool, true, false, cond, List, [], ◌∷◌, length, Option, Some, None, refl, sym, ap, ◌∙◌, subst, arith}
 use Rattle.std.specs.Prelude.{map, take, nat_lt, ◌==◌}
 use Rattle.std.proofs.lemmas.Bool.Decides.{nat_tests}
 use Rattle.std.specs.List.{fold, range_with_len}
 use Rattle.std.specs.Option.{option_or}
 use Rattle.std.specs.FinMap.Entries.{find-put, same_entries}
-use Rattle.std.proofs.Math.Nat.{mod-lt}
 use Rattle.fal_base.specs.declared.call.Config.{Config}
 use Rattle.fal_base.specs.declared.event.Event.{Event}
 use Rattle.fal_base.specs.declared.inode.Inode.{Inode}
@@ -19,11 +18,10 @@ use Rattle.fal_base.specs.Updates.{laid}
 use Rattle.fal_coord.specs.declared.stage.Stage.{Stage}
 use Rattle.fal_coord.specs.declared.stage.Stage.TheVariants as stage
 use Rattle.fal_coord.specs.State.{CoordState, is_idle, is_quiet}
-use Rattle.fal_place.specs.Hash.{name_hash}
-use Rattle.fal_place.specs.Placement.{opening_table, owner, is_root_key, Placement}
+use Rattle.fal_place.specs.Placement.{owner, Placement}
 use Rattle.fal_story.proofs.Events.Doing.{work_of}
 use Rattle.fal_story.proofs.Events.LegalRuns.{IsKept, legal_kept}
-use Rattle.fal_story.proofs.Events.Shows.{view_of}
+use Rattle.fal_story.proofs.Events.Shows.{view_of, before_in}
 use Rattle.fal_story.proofs.Families.Operation.{Stands}
 use Rattle.fal_story.proofs.Good.{Good}
 use Rattle.fal_story.proofs.Lists.Grown.{tells}
@@ -100,9 +98,6 @@ module _ (rows : ℕ → Tree) (q : Key) (own : ℕ) (x : Option Inode) (has : (
 
 -- ---- the rows of the nodes
 
-owner_below : (nodes : ℕ) (key : Key) → 0 < nodes → owner (opening_table nodes) key < nodes
-owner_below nodes key some = elim (is_root_key key) as (λ b. cond b 0 (name_hash key.name % nodes) < nodes) [ true ↦ some | false ↦ mod-lt (name_hash key.name) some ]
-
 abbrev trees_of : Config → World → List Tree
 trees_of config w = map (λ n. (w.nodes n).rows) (range_with_len 0 config.nodes)
 
@@ -120,6 +115,8 @@ is_at_rest before c quiet = rests_at c.stage (second (length c.waiting == 0) (is
     rests_at (stage.Lock operation missing rows) is = absurd (cc)
     rests_at (stage.Count operation rows dir updates missing counts) is = absurd (cc)
     rests_at (stage.Finish keys updates missing) is = absurd (cc)
+    rests_at (stage.Block call missing rows) is = absurd (cc)
+    rests_at (stage.Install call missing) is = absurd (cc)
 
 pub below_or_past : (a b : ℕ) → (a < b) ⊎ (b ≤ a)
 below_or_past a b = elim (nat_lt a b) as (λ t. nat_lt a b ≡ t → (a < b) ⊎ (b ≤ a)) [ true ↦ λ is. inl (grind (arith, nat_tests)) | false ↦ λ is. inr (grind (arith, nat_tests)) ] refl
@@ -135,7 +132,7 @@ kept_rows : (config : Config) (w : World) → IsCluster config → is_quiet w.co
 kept_rows config w cluster quiet k =
     let some : 0 < config.nodes = let s = cluster.some_nodes in omega arith in
     let tree = tree_at w.commits (length w.commits) in
-    let rests = is_at_rest k.ghost.before w.coord quiet in
+    let rests = is_at_rest (before_in config k.ghost) w.coord quiet in
     let due = λ (n : ℕ). none_due_at_rest config (view_of config w k.ghost) n rests k.shows.good in
     let rows = λ (n : ℕ) (q : Key). sym (ap (λ us. row_at (laid us (w.nodes n).rows) q) (due n)) ∙ k.shows.good.ground.rows n q in
     same_tree (all_rows (trees_of config w)) tree (in_order_all (trees_of config w)) (in_order w.commits (length w.commits)) (λ q.

@@ -93,7 +93,7 @@ served_unlisted tree cred (op.Unlink path) is = reached_unlisted tree cred path 
 served_unlisted tree cred (op.Rmdir path) is = rmdir_unlisted tree cred path
 served_unlisted tree cred (op.Rename old new) is = rename_unlisted tree cred old new
 served_unlisted tree cred (op.List path) is = absurd (cc)
-served_unlisted tree cred (op.Place name rule) is = absurd (cc)
+served_unlisted tree cred (op.Place name rule) is = refl
 
 place_unlisted : (nodes : ℕ) (ruled : List (List ℕ)) (cred : Cred) (name : List ℕ) (rule : Rule) → is_names (place_answer nodes ruled cred name rule) ≡ false
 place_unlisted nodes ruled cred name rule = checked_unlisted ((not (cred.uid == 0), Eperm) ∷ (is_outside rule nodes, Einval) ∷ (is_full ruled name, Enospc) ∷ []) Fine refl

@@ -7,7 +7,7 @@ use Rattle.fal_coord.proofs.hear.take_found.Goals as goal
 
 pub take_awaited-requires-clause-walked : goal.take_awaited-requires-clause-walked
 unfolding is_sound_stage
-take_awaited-requires-clause-walked c = subst (λ (s : Stage). IsTrue (is_sound_stage s)) (sym c.stage.ensures ∙ c.in-Walk.is) c.coord.invariant.stage_suits
+take_awaited-requires-clause-walked c = subst (λ (s : Stage). IsTrue (is_sound_stage c.coord.inside.table s)) (sym c.stage.ensures ∙ c.in-Walk.is) c.coord.invariant.stage_suits
 
 pub take_awaited-requires-clause-at : goal.take_awaited-requires-clause-at
 unfolding walked_call

@@ -7,7 +7,7 @@ use Rattle.fal_coord.proofs.hear.take_locked.Goals as goal
 
 pub lock_heard-requires-clause-decidable : goal.lock_heard-requires-clause-decidable
 unfolding is_sound_stage
-lock_heard-requires-clause-decidable c = subst (λ (s : Stage). IsTrue (is_sound_stage s)) (sym c.stage.ensures ∙ c.in-Lock.is) c.coord.invariant.stage_suits
+lock_heard-requires-clause-decidable c = subst (λ (s : Stage). IsTrue (is_sound_stage c.coord.inside.table s)) (sym c.stage.ensures ∙ c.in-Lock.is) c.coord.invariant.stage_suits
 
 pub lock_heard-requires-clause-at : goal.lock_heard-requires-clause-at
 unfolding operation_at

@@ -3,7 +3,7 @@ use Rattle.fal_coord.proofs.hear.with_rows.Given as goal
 
 -- the rows so far, and the rest, are all
 abbrev pub invariant-loop-row : goal.invariant-loop-row
-invariant-loop-row l = l.all ++ l.rest ≡ l.rows ++ l.told
+invariant-loop-row g l = l.all ++ l.rest ≡ l.rows ++ l.told
 
 abbrev pub decreases-loop-row : goal.decreases-loop-row
-decreases-loop-row l = length l.rest
+decreases-loop-row g l = length l.rest

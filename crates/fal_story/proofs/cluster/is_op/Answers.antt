@@ -1,6 +1,6 @@
 use Rattle.std.proofs.Common.{◌↔◌, IsTrue, refl, sym, subst}
 use Rattle.fal_base.specs.declared.op.Op.{Op}
-use Rattle.fal_story.proofs.Ranges.Fitting.{CanServe, access_is, as_good, chmod_is, create_is, mkdir_is, rename_is, rmdir_is, stat_is, truncate_is, unlink_is}
+use Rattle.fal_story.proofs.Ranges.Fitting.{CanServe, access_is, as_good, chmod_is, create_is, mkdir_is, place_is, rename_is, rmdir_is, stat_is, truncate_is, unlink_is}
 use Rattle.fal_story.proofs.cluster.is_op.Goals as goal
 
 pub returns-in-Mkdir : goal.returns-in-Mkdir
@@ -42,3 +42,6 @@ returns-in-Rmdir c =
 pub returns-in-Rename : goal.returns-in-Rename
 returns-in-Rename c =
     subst (λ (o : Op). IsTrue c.are_held.result ↔ CanServe o) (sym c.in-Rename.is) (as_good c.are_held.ensures (rename_is c.in-Rename.old c.in-Rename.new))
+
+pub returns-in-Place : goal.returns-in-Place
+returns-in-Place c = subst (λ (o : Op). IsTrue c.is_placing.result ↔ CanServe o) (sym c.in-Place.is) (as_good c.is_placing.ensures (place_is c.in-Place.name c.in-Place.rule))

@@ -1,0 +1,7 @@
+-- A number below ten is one digit.
+use Rattle.std.proofs.Common.{◌++◌, ap, sym, ◌∙◌}
+use Rattle.std.proofs.lemmas.Fmt.{decimal_digit}
+use Rattle.fal_report.proofs.bytes.put_number.Goals as goal
+
+pub returns-then-n-lt10 : goal.returns-then-n-lt10
+returns-then-n-lt10 c = c.in_ok-push.ensures.items ∙ ap (λ digits. c.args.out.now.items ++ digits) (sym (decimal_digit c.args.n c.if-n-lt10.true))

@@ -1,0 +1,9 @@
+pub mod Fates
+pub mod GatherEvent
+pub mod GatherHolds
+pub mod GatherLeft
+pub mod GatherPhases
+pub mod GatherSends
+pub mod Going
+pub mod Leaving
+pub mod ListedPhases
