@@ -1,5 +1,6 @@
 -- What a node answers to the questions of other actors, by its rows.
 use Rattle.std.specs.Prelude.{ℕ, List, [], ◌∷◌, length, Option, None, Some, ◌==◌, if◌then◌else◌}
+use Rattle.fal_base.specs.declared.call.CallId.{CallId}
 use Rattle.fal_base.specs.declared.inode.Inode.{Inode}
 use Rattle.fal_base.specs.declared.inode.Kind.TheVariants.{Dir as DirKind, File as FileKind}
 use Rattle.fal_base.specs.declared.key.Key.{Key}
@@ -47,3 +48,9 @@ count_told tree n operation dir = message.Counted operation n (length (names_und
 -- the answer of a node that gives away its rows of the name
 abbrev pub blocked_of : Tree → ℕ → ℕ → List ℕ → Message
 blocked_of tree n operation name = message.Blocked operation n (rows_named tree name)
+
+-- ---- a listing
+
+-- the answer of a node that is asked for its part of a listing: the names of its rows under the directory
+abbrev pub part_of : Tree → ℕ → CallId → ℕ → Message
+part_of tree n id dir = message.ListPart id n (names_under tree dir)

@@ -2,7 +2,9 @@
 #![tactic(auto)]
 
 mod fetch;
+mod listing;
 mod operation;
 
 pub use fetch::fetched;
+pub use listing::part;
 pub use operation::{blocked, counted, locked, mine};

@@ -1,8 +1,8 @@
 ghost use Rattle.std.specs.Prelude.{◌≤◌, IfOk};
 
 use crate::keys::key_of;
-use fal_base::{Dentry, Inode, Kind};
-use fal_duty::fetched;
+use fal_base::{CallId, Dentry, Inode, Kind};
+use fal_duty::{fetched, part};
 use fal_inode::Rows;
 use fal_wire::{Found, Message};
 use std::alloc::Global;
@@ -66,6 +66,28 @@ fn a_row_is_taken_once(rt: HostRuntime) -> Result<(), Fail> {
         assert_eq!(rt; rows.take(&key).map(|inode| inode.ino), wanted);
     }
     assert_eq!(rt; rows.children(2), 1);
+    Ok(())
+}
+
+// The answers of node 4 to what asks it for its part of a listing have the names in each directory.
+#[test]
+fn a_part_is_told(rt: HostRuntime) -> Result<(), Fail> {
+    let rows = rows_of_four(rt.alloc())?;
+    let asked = CallId {
+        client: 3,
+        seq: 7,
+        attempt: 2,
+        hop: 0,
+    };
+    for (dir, count) in [(1, 1), (2, 2), (3, 0), (9, 1)] {
+        let told = match part(&rows, 4, &asked, dir)? {
+            Message::ListPart { id, node, names } => {
+                id == asked && node == 4 && names.as_slice().len() == count
+            }
+            _ => false,
+        };
+        assert!(rt; told);
+    }
     Ok(())
 }
 
