@@ -26,7 +26,7 @@ seconds() {
   /usr/bin/time -f '%e s %M KB' "$@" 2>&1 >/dev/null <"$script"
 }
 
-for run in "mixed 1000" "mixed 10000" "moved 1000" "moved 10000" "placed 1000" "placed 10000" "wide 1000" "wide 10000"; do
+for run in "mixed 1000" "mixed 10000" "moved 1000" "moved 10000" "placed 1000" "placed 10000" "wide 1000" "wide 10000" "large 3373" "small 3082"; do
   set -- $run
   script=$out/$1-$2-of-four.falcon
   awk -v kind="$1" -v calls="$2" -v nodes=4 -v lanes=4 -f "$top/bench/scripts.awk" >"$script"

@@ -4,6 +4,8 @@
 #   moved  the same, mostly on files that are there, but for a tenth of the calls: chmod, rmdir and rename of directories
 #   placed the same as mixed, but every hundredth call places a name, by any rule
 #   wide   files of one directory: created, looked up and removed, at most 3,000 of them at once
+#   large  one directory of 3,000 files, which all further calls list
+#   small  one directory of 9 files, which all further calls list. A script's lists times its bytes are at most 134,217,728: about 3,000 lists
 function draw(below) { state = (state * 69069 + 12345) % 4294967296; return int(state / 65536) % below }
 function name(k) { return substr("abcdefghijklmnopqrstuvwxyz", k + 1, 1) }
 function path(missing) { return "/" name(draw(8)) "/" name(draw(8)) "/" (missing ? "none" draw(1000) : name(draw(26)) draw(40)) }
@@ -47,6 +49,7 @@ function wide(missing,   file) {
     else if (draw(4) == 0) line("0:0 unlink " file)
     else line("0:0 stat " file)
 }
+function listed(most) { if (files < most) line("0:0 create /i/file" ++files " 644"); else line("0:0 list /i") }
 BEGIN {
     state = 1; done = 0
     if (!nodes) nodes = 1
@@ -54,6 +57,7 @@ BEGIN {
     print "falcon-script 1"; print "nodes " nodes; print "lanes " lanes
     for (i = 0; i < 8; i++) line("0:0 mkdir /" name(i) " 777")
     for (i = 0; i < 8; i++) for (j = 0; j < 8; j++) line("0:0 mkdir /" name(i) "/" name(j) " 777")
+    if (kind == "large" || kind == "small") line("0:0 mkdir /i 777")
     while (done < calls) {
         missing = draw(4) == 0
         if (kind == "pair") pair(missing)
@@ -61,5 +65,7 @@ BEGIN {
         if (kind == "moved") moved(missing)
         if (kind == "placed") placed(missing)
         if (kind == "wide") wide(missing)
+        if (kind == "large") listed(3000)
+        if (kind == "small") listed(9)
     }
 }

@@ -127,6 +127,7 @@ message_items x point (message.Call call) h = elim (is_some (row_names call.op))
 message_items x point (message.FetchAsk asker number key) h =
     elim (is_asker x.table.nodes asker) as (λ b. HasItems (cond b (with_item x (message.FetchAsk asker number key)) x)) [ true ↦ asked_items x (message.FetchAsk asker number key) h | false ↦ h ]
 message_items x point (message.FetchGot number key what) h = pending_items x point key what (fetch_of x.waiting number) h
+message_items x point (message.ListAsk id version dir) h = asked_items x (message.ListAsk id version dir) h
 message_items x point (message.Lock operation keys) h = operation_items x operation (message.Lock operation keys) h
 message_items x point (message.Count operation dir) h = count_items x operation dir h
 message_items x point (message.Commit operation updates) h = commit_items x operation updates h

@@ -1,4 +1,4 @@
--- Made scripts can be printed, and read back where their operations are served.
+-- Made scripts can be printed, and read back.
 use Rattle.std.proofs.Common.{◌≡◌, ℕ, zero, suc, ◌+◌, ◌%◌, ◌<◌, ◌≤◌, ◌^◌, List, [], ◌∷◌, ◌++◌, length, refl, ap, sym, subst, arith, length-append}
 use Rattle.std.specs.Prelude.{codes, Some, slice_get}
 use Rattle.std.specs.Fmt.{decimal}
@@ -15,7 +15,7 @@ use Rattle.rand_core.specs.Steps.{first_words}
 use Rattle.rand_pcg.specs.Lcg.{Lcg}
 use Rattle.rand_pcg.specs.Pcg.{pcg32}
 use Rattle.fal_gen.specs.Calls.{lane_path, op_by}
-use Rattle.fal_gen.specs.Lines.{root_line, opening_line, opening_lines, lines_from, lines_by, IsMadeLine, AreServed}
+use Rattle.fal_gen.specs.Lines.{root_line, opening_line, opening_lines, lines_from, lines_by, IsMadeLine}
 use Rattle.fal_gen.specs.Source.{words_of_seed, source_of}
 use Rattle.fal_gen.proofs.MadeOps.{IsMadeOp, mkdir_made, op_made}
 use Rattle.fal_gen.proofs.MadePaths.{joined, lane_made}
@@ -74,8 +74,8 @@ lines_count seed size =
     omega arith
 
 -- a script of made lines, on four nodes and four lanes
-pub made_is_printable : (lines : List ScriptCall) → All IsMadeLine lines → AreServed lines → IsPrintable (record { nodes = 4; lanes = 4; lines = lines })
-made_is_printable lines made served = record {
+pub made_is_printable : (lines : List ScriptCall) → All IsMadeLine lines → IsPrintable (record { nodes = 4; lanes = 4; lines = lines })
+made_is_printable lines made = record {
   spelled = record {
     some_nodes = omega arith;
     nodes = omega arith;
@@ -84,7 +84,7 @@ made_is_printable lines made served = record {
     lines = λ j line is. let at = line_at j line is in record {
       from_one = at.from_one;
       within = at.within;
-      call = record { uid = subst (λ n. n < 2 ^ 32) (sym at.uid) (omega arith); gid = subst (λ n. n < 2 ^ 32) (sym at.gid) (omega arith); op = at.op; served = served j line is };
+      call = record { uid = subst (λ n. n < 2 ^ 32) (sym at.uid) (omega arith); gid = subst (λ n. n < 2 ^ 32) (sym at.gid) (omega arith); op = at.op };
     };
   };
   short = λ j line is. (line_at j line is).short;

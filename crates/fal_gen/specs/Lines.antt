@@ -1,6 +1,6 @@
 -- The script that words make: each of four lanes makes its directory, and then each word chooses a call, the lanes taking turns. All calls are
 -- by root.
-use Rattle.std.specs.Prelude.{◌≡◌, ◌≤◌, ℕ, ◌+◌, ◌%◌, List, ◌++◌, length, map, Some, slice_get, IsTrue}
+use Rattle.std.specs.Prelude.{◌≡◌, ◌≤◌, ℕ, ◌+◌, ◌%◌, List, ◌++◌, length, map}
 use Rattle.std.specs.List.{enumerate_from, range_with_len}
 use Rattle.fal_base.specs.declared.op.Op.{Op}
 use Rattle.fal_base.specs.declared.op.Op.TheVariants.{Mkdir}
@@ -8,7 +8,6 @@ use Rattle.fal_script.specs.declared.script.Script.{Script}
 use Rattle.fal_script.specs.declared.script.ScriptCall.{ScriptCall}
 use Rattle.fal_script.specs.Printed.{call_line, IsPrintablePath, IsPrintableName}
 use Rattle.fal_script.specs.Ranges.{IsOpOf}
-use Rattle.fal_script.specs.Verbs.{is_served_verb, verb_of}
 use Rattle.fal_gen.specs.Calls.{lane_path, op_by}
 
 -- root's call of a lane
@@ -47,7 +46,3 @@ pub record IsMadeLine (line : ScriptCall) : Type 0 where
   pub gid : line.call.cred.gid ≡ 0
   pub op : IsOpOf IsPrintablePath IsPrintableName line.call.op
   pub short : length (call_line line) ≤ 16384
-
--- clusters serve the operation of each line
-abbrev pub AreServed : List ScriptCall → Type 0
-AreServed lines = (j : ℕ) (line : ScriptCall) → slice_get lines j ≡ Some line → IsTrue (is_served_verb (verb_of line.call.op))

@@ -1,7 +1,7 @@
 ghost use Rattle.std.specs.Prelude.{◌≡◌, ◌≤◌, ◌+◌, length, IfOk};
 ghost use Rattle.std.specs.List.{All};
 ghost use Rattle.fal_script.specs.Printed.{IsPrintable};
-ghost use Rattle.fal_gen.specs.Lines.{root_line as root_line_of, opening_lines as openings, line_by as line_of, lines_by, script_of_words, IsMadeLine, AreServed};
+ghost use Rattle.fal_gen.specs.Lines.{root_line as root_line_of, opening_lines as openings, line_by as line_of, lines_by, script_of_words, IsMadeLine};
 ghost use Rattle.fal_gen.specs.Source.{words_of_seed};
 
 use crate::names::lane_path;
@@ -58,14 +58,14 @@ fn lines_of(alloc: Global, seed: u64, size: u32) -> Result<LineList, OutOfMemory
 /// The script of a seed, with so many calls after the four that make the directories of its lanes: at most 10,000 calls in all. The same seed
 /// and size give the same script. Answers want of memory where there is too little.
 ///
-/// A made script can be printed, and read back where clusters serve all its operations.
+/// A made script can be printed, and read back.
 pub fn make(alloc: Global, seed: u64, size: u32) -> Result<Script, OutOfMemory>
     requires some { 1 ≤ size }
     requires few { size ≤ 9996 }
     ensures script { IfOk result (λ script. script ≡ script_of_words (words_of_seed seed size)) }
     ensures count { IfOk result (λ script. length script.lines ≡ 4 + size) }
     ensures lines { IfOk result (λ script. All IsMadeLine script.lines) }
-    ensures printable { IfOk result (λ script. AreServed script.lines → IsPrintable script) }
+    ensures printable { IfOk result (λ script. IsPrintable script) }
 {
     let lines = lines_of(alloc, seed, size)?;
     Ok(Script {

@@ -1,2 +1,2 @@
-mod Ascending
+pub mod Ascending
 mod Leaving

@@ -1,11 +1,12 @@
 -- An item is served: a record that the node has kept until it can.
-use Rattle.std.specs.Prelude.{ℕ, Bool, false, not, ◌&&◌, ◌||◌, List, [], ◌∷◌, Option, None, Some, is_some, ◌==◌, if◌then◌else◌}
+use Rattle.std.specs.Prelude.{ℕ, Bool, false, not, ◌&&◌, ◌||◌, List, [], ◌∷◌, Option, None, Some, is_some, nat_lt, ◌==◌, if◌then◌else◌}
 use Rattle.std.specs.List.{list_any}
 use Rattle.fal_base.specs.declared.barred.Barred.TheVariants.{One}
-use Rattle.fal_base.specs.declared.event.Actor.TheVariants.{Node, Coord}
+use Rattle.fal_base.specs.declared.call.CallId.{CallId}
+use Rattle.fal_base.specs.declared.event.Actor.TheVariants.{Client, Node, Coord}
 use Rattle.fal_base.specs.declared.event.Point.TheVariants.{Here}
 use Rattle.fal_base.specs.declared.key.Key.{Key}
-use Rattle.fal_place.specs.Placement.{owner}
+use Rattle.fal_place.specs.Placement.{owner, changes_since}
 use Rattle.fal_dentry.specs.Walk.{without_keys}
 use Rattle.fal_inode.specs.Named.{without_named}
 use Rattle.fal_locks.specs.Locks.{LockTable, is_shut, is_held, is_name_held, with_shut}
@@ -13,7 +14,7 @@ use Rattle.fal_wait.specs.Waiting.{after_cancel}
 use Rattle.fal_wire.specs.declared.message.Message.{Message}
 use Rattle.fal_wire.specs.declared.message.Message.TheVariants as message
 use Rattle.fal_batch.specs.Fate.{bars}
-use Rattle.fal_duty.specs.Duties.{fetched_of, locked_of, blocked_of}
+use Rattle.fal_duty.specs.Duties.{fetched_of, locked_of, blocked_of, part_of}
 use Rattle.fal_node.specs.declared.item.Item.{Item}
 use Rattle.fal_wire.specs.declared.letter.Letter.{Letter}
 use Rattle.fal_node.specs.State.{NodeState, blocked_names, without_item}
@@ -85,6 +86,34 @@ block_service node operation name = record {
   work = record { node = blocking node operation name; sent = letter Coord (Here 0) (blocked_of node.rows node.number operation name) ∷ []; notes = [] };
 }
 
+-- ---- a part of a listing
+
+-- whether the asker's table is older than this one
+abbrev pub is_behind : NodeState → ℕ → Bool
+is_behind node version = nat_lt version node.table.version
+
+-- nothing is shut and nothing is blocked, so each row of the tree that lives here is here
+abbrev pub is_open : NodeState → Bool
+is_open node = not (is_some node.locks.shut) && not (is_some node.blocked)
+
+-- it is served where the asker's table is older; or it is the same, and nothing is shut or blocked
+abbrev pub can_list : NodeState → ℕ → Bool
+can_list node version = is_behind node version || ((version == node.table.version) && is_open node)
+
+-- the changes since an older table; by the same table the names of the rows under the directory
+abbrev pub list_message : NodeState → CallId → ℕ → ℕ → Message
+list_message node id version dir =
+    if is_behind node version then message.Stale id version node.table.version (changes_since version node.table)
+    else part_of node.rows node.number id dir
+
+-- the client is told
+abbrev pub list_letter : NodeState → CallId → ℕ → ℕ → Letter
+list_letter node id version dir = letter (Client id.client) (Here 0) (list_message node id version dir)
+
+-- nothing else changes
+abbrev pub list_service : NodeState → CallId → ℕ → ℕ → Service
+list_service node id version dir = record { can = can_list node version; work = record (begun node) { sent = list_letter node id version dir ∷ [] } }
+
 -- ---- any item
 
 -- a record that is no item is never served
@@ -94,6 +123,7 @@ no_service node = record { can = false; work = begun node }
 -- by the kind of the record
 abbrev pub service_of : NodeState → Message → Service
 service_of node (message.FetchAsk asker number key) = fetch_service node asker number key
+service_of node (message.ListAsk id version dir) = list_service node id version dir
 service_of node (message.Lock operation keys) = lock_service node operation keys
 service_of node (message.Block operation name) = block_service node operation name
 service_of node other = no_service node

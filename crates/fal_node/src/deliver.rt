@@ -104,6 +104,9 @@ fn take_message(node: &Node, point: u64, message: Message) -> Result<Draft, OutO
     match message {
         Message::Call(call) => Ok(take_call(node, call)),
         Message::FetchAsk { asker, number, key } => Ok(take_question(node, asker, number, key)),
+        Message::ListAsk { id, version, dir } => {
+            Ok(keep(node, Message::ListAsk { id, version, dir }))
+        }
         Message::FetchGot { number, key, found } => take_found(node, number, point, key, found),
         Message::Lock { op, keys } => Ok(take_operation(node, op, Message::Lock { op, keys })),
         Message::Block { op, name } => Ok(take_operation(node, op, Message::Block { op, name })),

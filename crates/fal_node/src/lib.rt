@@ -16,6 +16,7 @@ mod gather;
 mod install;
 mod item;
 mod law;
+mod list;
 mod lock;
 mod node;
 mod operation;

@@ -17,7 +17,7 @@ use fal_locks::Locks;
 use fal_wire::KeyList;
 
 // Whether an operation has shut keys.
-fn is_any_shut(locks: &Locks) -> bool
+pub(crate) fn is_any_shut(locks: &Locks) -> bool
     ensures { result ≡ is_some locks.now.table.shut }
 {
     locks.shut_op().is_some()

@@ -14,6 +14,7 @@ use crate::block::{can_block, serve_block};
 use crate::blocking::blocked_names;
 use crate::draft::{Draft, letters_of_one, quiet_draft, sending_draft};
 use crate::item::Item;
+use crate::list::{can_list, serve_list};
 use crate::lock::{can_shut, serve_lock};
 use crate::node::Node;
 use crate::patch::Patch;
@@ -123,6 +124,7 @@ pub(crate) fn can_serve(node: &Node, message: &Message) -> bool
 {
     match message {
         Message::FetchAsk { key, .. } => can_tell(node, key),
+        Message::ListAsk { version, .. } => can_list(node, *version),
         Message::Lock { keys, .. } => can_shut(&node.locks, keys.as_slice()),
         Message::Block { name, .. } => can_block(node, name),
         _ => false,
@@ -140,10 +142,32 @@ fn serve_item(node: &Node, item: &Item) -> Result<Option<Draft>, OutOfMemory>
         Message::FetchAsk { asker, number, key } => {
             serve_fetch(node, item.number, *asker, *number, key)
         }
+        Message::ListAsk { id, version, dir } => {
+            serve_list(node, item.number, id, *version, *dir)
+        }
         Message::Lock { op, keys } => serve_lock(node, item.number, *op, keys),
         Message::Block { op, name } => serve_block(node, item.number, *op, name),
         _ => Ok(None),
     }
+}
+
+// Serves the item, where it is there and its condition holds.
+fn serve_found(node: &Node, item: Option<&Item>) -> Result<Option<Draft>, OutOfMemory>
+    ensures does { IfOk result (λ draft. DoesOf node.now.state (serve_of node.now.state (option_copied item.entry)) draft) }
+    ensures can { IfOk result (λ draft. ForSome draft (λ d. CanDraft node.now.state d.patch)) }
+    ensures err { OnErr result (IsSome (serve_of node.now.state (option_copied item.entry))) }
+{
+    match item {
+        None => Ok(None),
+        Some(item) => serve_item(node, item),
+    }
+}
+
+// The node's item with this number.
+fn item_at(node: &Node, number: u64) -> Option<&Item>
+    ensures { option_copied result ≡ item_of node.now.state number }
+{
+    find_item(&node.items, number)
 }
 
 // Serves the item with this number, where it is there and its condition holds.
@@ -152,10 +176,7 @@ pub(crate) fn serve(node: &Node, number: u64) -> Result<Option<Draft>, OutOfMemo
     ensures can { IfOk result (λ draft. ForSome draft (λ d. CanDraft node.now.state d.patch)) }
     ensures err { OnErr result (IsSome (serve_of node.now.state (item_of node.now.state number))) }
 {
-    match find_item(&node.items, number) {
-        None => Ok(None),
-        Some(item) => serve_item(node, item),
-    }
+    serve_found(node, item_at(node, number))
 }
 
 // Releases the batch with this number, where it is there and executed.

@@ -15,7 +15,7 @@ const STAT: &[u8] =
     b"\x01\x01\0\0\0\x1c\x01\0\0\0\x01\0\0\0\x01\0\0\0\0\0\0\0\0\0\0\0\0\0\0\0\0\x03\0\0";
 
 // Envelopes by receiver and bytes, whether the bytes are a record, and what they do to node 1 of three as they come once and once more.
-const ROWS: [(Actor, &[u8], bool, [Effect; 2]); 25] = [
+const ROWS: [(Actor, &[u8], bool, [Effect; 2]); 28] = [
     // what was sent to another actor
     (Actor::Client(1), STAT, true, [Effect::Refused; 2]),
     (Actor::Node(0), STAT, true, [Effect::Refused; 2]),
@@ -157,6 +157,26 @@ const ROWS: [(Actor, &[u8], bool, [Effect; 2]); 25] = [
     (
         Actor::Node(1),
         b"\x07\x01\0\0\0\x13\x0f\0\0\0\0\0\0\0\x07\0\0\0\0\0\0\0\x01\x01a",
+        true,
+        [Effect::Nothing; 2],
+    ),
+    // a client asks for a part of a listing; each time it comes is an item, too
+    (
+        Actor::Node(1),
+        b"\x05\x01\0\0\0\x19\x01\0\0\0\x01\0\0\0\x01\0\0\0\0\0\0\0\0\0\0\0\0\0\0\0\x01",
+        true,
+        [Effect::Change; 2],
+    ),
+    // records of a listing for a client: its directory is opened, and the part of node 0
+    (
+        Actor::Node(1),
+        b"\x04\x01\0\0\0\x15\x01\0\0\0\x01\0\0\0\x01\0\0\0\0\0\0\0\0\0\0\0\x01",
+        true,
+        [Effect::Nothing; 2],
+    ),
+    (
+        Actor::Node(1),
+        b"\x06\x01\0\0\0\x12\x01\0\0\0\x01\0\0\0\x01\0\0\0\0\0\0\0\0\0",
         true,
         [Effect::Nothing; 2],
     ),

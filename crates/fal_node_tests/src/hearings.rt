@@ -15,7 +15,7 @@ const RMDIR: &[u8] =
     b"\x01\x01\0\0\0\x1e\x01\0\0\0\x01\0\0\0\x01\0\0\0\0\0\0\0\0\0\0\0\0\0\0\0\0\x09\0\x01\x01a";
 
 // Envelopes by receiver and bytes, whether the bytes are a record, and what they do to the coordinator of three nodes as they come once and once more.
-const ROWS: [(Actor, &[u8], bool, [Effect; 2]); 21] = [
+const ROWS: [(Actor, &[u8], bool, [Effect; 2]); 24] = [
     // what was sent to another actor
     (Actor::Client(1), RMDIR, true, [Effect::Refused; 2]),
     (Actor::Node(0), RMDIR, true, [Effect::Refused; 2]),
@@ -129,6 +129,25 @@ const ROWS: [(Actor, &[u8], bool, [Effect; 2]); 21] = [
     (
         Actor::Coord,
         b"\x0d\x01\0\0\0\x10\0\0\0\x01\x01\0\0\0\0\0\0\0\x01\x01a\0",
+        true,
+        [Effect::Nothing; 2],
+    ),
+    // records of a listing: its directory is opened, a client asks for a part, and node 0 gives its part
+    (
+        Actor::Coord,
+        b"\x04\x01\0\0\0\x15\x01\0\0\0\x01\0\0\0\x01\0\0\0\0\0\0\0\0\0\0\0\x01",
+        true,
+        [Effect::Nothing; 2],
+    ),
+    (
+        Actor::Coord,
+        b"\x05\x01\0\0\0\x19\x01\0\0\0\x01\0\0\0\x01\0\0\0\0\0\0\0\0\0\0\0\0\0\0\0\x01",
+        true,
+        [Effect::Nothing; 2],
+    ),
+    (
+        Actor::Coord,
+        b"\x06\x01\0\0\0\x12\x01\0\0\0\x01\0\0\0\x01\0\0\0\0\0\0\0\0\0",
         true,
         [Effect::Nothing; 2],
     ),

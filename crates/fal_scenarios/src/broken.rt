@@ -8,7 +8,7 @@ pub enum Broken {
     OutOfMemory,
     /// The line is not in the grammar.
     Grammar,
-    /// The cluster may not run. Most often that is a call of an operation that no cluster serves yet.
+    /// The cluster may not run.
     MayNotRun,
     /// The envelope that the line names was not sent, or came already, or did not come yet.
     NoEnvelope,

@@ -1,4 +1,4 @@
-//! The calls of a header: as a script spells them, of all operations, those that no cluster serves yet among them.
+//! The calls of a header: as a script spells them, of all operations.
 
 use crate::broken::Broken;
 use fal_base::Call;

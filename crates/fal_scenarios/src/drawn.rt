@@ -51,13 +51,44 @@ fn drawn_rule(source: &mut Lcg64Xsh32) -> Rule {
     }
 }
 
-/// A call on one of few paths, now and then by another user than root.
-pub fn drawn_call(alloc: Global, source: &mut Lcg64Xsh32) -> Result<Call, Broken> {
-    let (uid, gid) = if draw(source, 4) == 0 {
-        (1000, 100)
+// Root, or now and then another user.
+fn drawn_cred(source: &mut Lcg64Xsh32) -> Cred {
+    if draw(source, 4) == 0 {
+        Cred {
+            uid: 1000,
+            gid: 100,
+        }
     } else {
-        (0, 0)
+        Cred { uid: 0, gid: 0 }
+    }
+}
+
+// A list of a path, most often of one where a directory may stand.
+fn drawn_list(alloc: Global, source: &mut Lcg64Xsh32) -> Result<Call, Broken> {
+    let cred = drawn_cred(source);
+    let path = match draw(source, 6) {
+        0 => PathArg::read(alloc, b"/")?,
+        1..=2 => PathArg::read(alloc, b"/a")?,
+        3 => PathArg::read(alloc, b"/b")?,
+        _ => drawn_path(alloc, source)?,
     };
+    Ok(Call {
+        cred,
+        op: Op::List { path },
+    })
+}
+
+/// A random call, or half the time a list where such are asked for.
+pub fn drawn_by(alloc: Global, source: &mut Lcg64Xsh32, lists: bool) -> Result<Call, Broken> {
+    if lists && draw(source, 2) == 0 {
+        return drawn_list(alloc, source);
+    }
+    drawn_call(alloc, source)
+}
+
+// A call on one of few paths, now and then by another user than root.
+fn drawn_call(alloc: Global, source: &mut Lcg64Xsh32) -> Result<Call, Broken> {
+    let cred = drawn_cred(source);
     let path = drawn_path(alloc, source)?;
     let op = match draw(source, 16) {
         0..=3 => Op::Mkdir { path, mode: 0o755 },
@@ -85,10 +116,7 @@ pub fn drawn_call(alloc: Global, source: &mut Lcg64Xsh32) -> Result<Call, Broken
         14 => Op::Access { path, want: 5 },
         _ => Op::Stat { path },
     };
-    Ok(Call {
-        cred: Cred { uid, gid },
-        op,
-    })
+    Ok(Call { cred, op })
 }
 
 // The delivery of an envelope that was sent.

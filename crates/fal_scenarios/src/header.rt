@@ -2,7 +2,7 @@
 
 use crate::broken::Broken;
 use crate::calls::call;
-use crate::drawn::{drawn_call, source_of};
+use crate::drawn::{drawn_by, source_of};
 use crate::words::{is, number, small};
 use fal_alone::Cluster;
 use fal_script::{LineList, Script, ScriptCall, config_of};
@@ -40,15 +40,18 @@ impl Header {
                 self.script.lines.push(call)?;
             }
             [word, count, from, seed] if is(word, b"calls") && is(from, b"from") => {
-                self.draw(alloc, number(count)?, number(seed)?)?;
+                self.draw(alloc, number(count)?, number(seed)?, false)?;
+            }
+            [word, count, from, seed] if is(word, b"listings") && is(from, b"from") => {
+                self.draw(alloc, number(count)?, number(seed)?, true)?;
             }
             _ => return Ok(false),
         }
         Ok(true)
     }
 
-    // So many random calls, on lane after lane.
-    fn draw(&mut self, alloc: Global, count: u64, seed: u64) -> Result<(), Broken> {
+    // So many random calls, on lane after lane, of which half may have to list.
+    fn draw(&mut self, alloc: Global, count: u64, seed: u64, lists: bool) -> Result<(), Broken> {
         let mut source = source_of(seed);
         let mut lane = 0;
         for _ in 0..count {
@@ -57,7 +60,7 @@ impl Header {
             } else {
                 1
             };
-            let call = drawn_call(alloc, &mut source)?;
+            let call = drawn_by(alloc, &mut source, lists)?;
             self.script.lines.push(ScriptCall { lane, call })?;
         }
         Ok(())

@@ -1,6 +1,7 @@
 //! The plain tree judges a run.
 
 use crate::broken::Broken;
+use crate::listed::wrong_listings;
 use crate::placed::wrong_places;
 use fal_alone::Cluster;
 use fal_base::{Call, Config, Entry, Op, Reply};
@@ -12,8 +13,8 @@ pub fn call_of(config: &Config, lane: u8, seq: u32) -> Option<&Call> {
     calls.get((seq as usize).checked_sub(1)?)
 }
 
-// The plain tree after so many commits of the run.
-fn tree_at(
+/// The plain tree after so many commits of the run.
+pub fn tree_at(
     alloc: Global,
     config: &Config,
     entries: &[Entry],
@@ -33,9 +34,12 @@ fn tree_at(
     Ok(tree)
 }
 
-// Whether the plain tree answers the call with this reply. To a change of placement it has no answer.
+// Whether the plain tree answers the call with this reply. It judges no change of placement, and no names.
 fn is_answer(tree: &PlainTree, call: &Call, reply: &Reply) -> Result<bool, Broken> {
     if let Op::Place { .. } = &call.op {
+        return Ok(true);
+    }
+    if let Reply::Names(_) = reply {
         return Ok(true);
     }
     Ok(tree.answer(&call.cred, &call.op)? == *reply)
@@ -60,12 +64,14 @@ fn wrong(alloc: Global, config: &Config, entries: &[Entry]) -> Result<u32, Broke
     Ok(count)
 }
 
-/// Each answer is that of the plain tree at its point, or of the names that are placed, and the rows are those that the commits leave.
+/// Each answer is that of the plain tree at its point, or of the names that are placed, or a listing by the trees between its points, and the rows
+/// are those that the commits leave.
 pub fn judge(alloc: Global, cluster: &Cluster) -> Result<(), Broken> {
     let book = cluster.book();
     let entries = book.transcript()?;
     let count = wrong(alloc, book.config(), &entries)?;
     let count = count.saturating_add(wrong_places(alloc, book.config(), &entries)?);
+    let count = count.saturating_add(wrong_listings(alloc, book.config(), &entries)?);
     if count > 0 {
         return Err(Broken::Answers(count));
     }

@@ -7,10 +7,9 @@
 //! |---|---|
 //! | `nodes N`, `lanes N`, `batch N` | how many nodes, lanes, and calls in a batch; 1 where there is no such line |
 //! | `call LANE UID:GID OPERATION ARGUMENTS` | a lane's next call, as in a script, of any operation |
-//! | `calls COUNT from SEED` | random calls, on lane after lane |
+//! | `calls COUNT from SEED`, `listings COUNT from SEED` | random calls, on lane after lane; of `listings` half list |
 //!
-//! An operation that no cluster serves yet is refused with `MayNotRun` at the first line after these. That line opens the cluster, and
-//! each line from there on is an event or a word on how things stand:
+//! The first line after these opens the cluster, where that may run, and each line from there on is an event or a word on how things stand:
 //!
 //! | Line | Means |
 //! |---|---|
@@ -30,8 +29,9 @@
 //! ENVELOPE is `[KIND] [from ACTOR] [to ACTOR]`, the first such envelope that did not come yet (with `again`, the last that came, or after
 //! `first` the first that came), or `unsent`, one that nobody sent. ACTOR is `lane L`, `node N` or `coordinator`; without `to` it is the event's own.
 //!
-//! At the end of each scenario every answer has to be that of the plain tree at its point, the rows those that the commits leave, and the
-//! same events, entered through the lock of a book, leave the same transcript.
+//! At the end of each scenario every answer has to be that of the plain tree at its point, one with names a listing by the trees between the
+//! opening of its directory and its point, the rows those that the commits leave, and the same events, entered through the lock of a book, leave
+//! the same transcript.
 #![tactic(auto)]
 
 #[cfg(test)]
@@ -42,6 +42,8 @@ mod blocks;
 mod broken;
 #[cfg(test)]
 mod calls;
+#[cfg(test)]
+mod changing;
 #[cfg(test)]
 mod commands;
 #[cfg(test)]
@@ -60,6 +62,10 @@ mod header;
 mod held;
 #[cfg(test)]
 mod judge;
+#[cfg(test)]
+mod listed;
+#[cfg(test)]
+mod listings;
 #[cfg(test)]
 mod operations;
 #[cfg(test)]

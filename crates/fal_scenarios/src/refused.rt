@@ -43,7 +43,7 @@ fn what_may_not_happen_is_refused(rt: HostRuntime) -> Result<(), Fail> {
 
 // Scenarios that do not hold, with the reason.
 const WRONG: [(&str, &str); 12] = [
-    ("call 1 0:0 list /a\nfinish\n", "MayNotRun"),
+    ("nodes 17\ncall 1 0:0 stat /a\nfinish\n", "MayNotRun"),
     ("call 1 0:0 fly /a\nfinish\n", "Grammar"),
     (
         "call 1 0:0 stat /a\nsend lane 1\nget lane 1\n",

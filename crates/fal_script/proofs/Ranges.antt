@@ -22,7 +22,7 @@ use Rattle.fal_script.specs.Calls.{path_words, path_number_words, path_owner_wor
 use Rattle.fal_script.specs.Numbers.{is_number, value_after, number_up_to, from_one, number_from_one, is_mode, octal_after, spelled_mode}
 use Rattle.fal_script.specs.Ranges.{IsSpelled, IsSpelledRule, IsOpOf, IsLineOf}
 use Rattle.fal_script.specs.ReadAs.{or_rule, ◌=>>◌}
-use Rattle.fal_script.specs.Verbs.{is_served_verb, if_served, served_word, verb_word, verb_of}
+use Rattle.fal_script.specs.Verbs.{verb_word}
 use Rattle.fal_script.specs.Words.{is_word}
 use Rattle.fal_script.proofs.Results.{let_through, mapped, err-ok, same_Ok, ruled, both_read}
 
@@ -192,49 +192,37 @@ module _ (Word : List ℕ → Type 0) (Path : PathArg → Type 0) (Name : List �
 
   -- ---- operations and calls
 
-  record IsOpNamed (verb : Verb) (o : Op) : Type 0 where
-    spelled : IsOpOf Path Name o
-    named : verb_of o ≡ verb
+  abbrev Spelled : Op → Type 0
+  Spelled = IsOpOf Path Name
 
-  path_op : (verb : Verb) (make : PathArg → Op) (words : List (List ℕ)) (o : Op) → ((p : PathArg) → Path p → IsOpNamed verb (make p)) → AllByRecursion Word words → (path_words words =>> λ p. Ok (make p)) ≡ Ok o → IsOpNamed verb o
-  path_op verb make words o made are is = both_read (path_words words) _ o is (λ p some rest. subst (IsOpNamed verb) (same_Ok (make p) o rest) (made p (one_spelled words p are some)))
+  path_op : (make : PathArg → Op) (words : List (List ℕ)) (o : Op) → ((p : PathArg) → Path p → Spelled (make p)) → AllByRecursion Word words → (path_words words =>> λ p. Ok (make p)) ≡ Ok o → Spelled o
+  path_op make words o made are is = both_read (path_words words) _ o is (λ p some rest. subst Spelled (same_Ok (make p) o rest) (made p (one_spelled words p are some)))
 
-  pair_op : (verb : Verb) (make : PathArg → ℕ → Op) (form : List ℕ → Result ℕ ℕ) (P : ℕ → Type 0) (words : List (List ℕ)) (o : Op) → ((word : List ℕ) (n : ℕ) → form word ≡ Ok n → P n)
-      → ((p : PathArg) (n : ℕ) → Path p → P n → IsOpNamed verb (make p n)) → AllByRecursion Word words → (path_number_words form words =>> λ a. Ok (make a.0 a.1)) ≡ Ok o → IsOpNamed verb o
-  pair_op verb make form P words o small made are is =
+  pair_op : (make : PathArg → ℕ → Op) (form : List ℕ → Result ℕ ℕ) (P : ℕ → Type 0) (words : List (List ℕ)) (o : Op) → ((word : List ℕ) (n : ℕ) → form word ≡ Ok n → P n)
+      → ((p : PathArg) (n : ℕ) → Path p → P n → Spelled (make p n)) → AllByRecursion Word words → (path_number_words form words =>> λ a. Ok (make a.0 a.1)) ≡ Ok o → Spelled o
+  pair_op make form P words o small made are is =
       both_read (path_number_words form words) _ o is (λ a some rest.
-      let pair = pair_spelled form P small words a are some in subst (IsOpNamed verb) (same_Ok (make a.0 a.1) o rest) (made a.0 a.1 pair.path pair.number))
+      let pair = pair_spelled form P small words a are some in subst Spelled (same_Ok (make a.0 a.1) o rest) (made a.0 a.1 pair.path pair.number))
 
-  op_spelled : (verb : Verb) (words : List (List ℕ)) (o : Op) → AllByRecursion Word words → op_words verb words ≡ Ok o → IsOpNamed verb o
-  op_spelled verb.Mkdir words o are is =
-      pair_op verb.Mkdir (λ p n. op.Mkdir p n) mode_word (λ n. n < 512) words o mode_small (λ p n path small. record { spelled = (path, small); named = refl }) are is
-  op_spelled verb.Create words o are is =
-      pair_op verb.Create (λ p n. op.Create p n) mode_word (λ n. n < 512) words o mode_small (λ p n path small. record { spelled = (path, small); named = refl }) are is
-  op_spelled verb.Stat words o are is = path_op verb.Stat (λ p. op.Stat p) words o (λ p path. record { spelled = path; named = refl }) are is
+  op_spelled : (verb : Verb) (words : List (List ℕ)) (o : Op) → AllByRecursion Word words → op_words verb words ≡ Ok o → Spelled o
+  op_spelled verb.Mkdir words o are is = pair_op (λ p n. op.Mkdir p n) mode_word (λ n. n < 512) words o mode_small (λ p n path small. (path, small)) are is
+  op_spelled verb.Create words o are is = pair_op (λ p n. op.Create p n) mode_word (λ n. n < 512) words o mode_small (λ p n path small. (path, small)) are is
+  op_spelled verb.Stat words o are is = path_op (λ p. op.Stat p) words o (λ p path. path) are is
   op_spelled verb.Access words o are is =
-      pair_op verb.Access (λ p n. op.Access p n) (number_word 7) (λ n. n ≤ 7) words o (word_small 7) (λ p n path small. record { spelled = (path, omega (arith, small)); named = refl }) are is
-  op_spelled verb.Chmod words o are is =
-      pair_op verb.Chmod (λ p n. op.Chmod p n) mode_word (λ n. n < 512) words o mode_small (λ p n path small. record { spelled = (path, small); named = refl }) are is
+      pair_op (λ p n. op.Access p n) (number_word 7) (λ n. n ≤ 7) words o (word_small 7) (λ p n path small. (path, omega (arith, small))) are is
+  op_spelled verb.Chmod words o are is = pair_op (λ p n. op.Chmod p n) mode_word (λ n. n < 512) words o mode_small (λ p n path small. (path, small)) are is
   op_spelled verb.Chown words o are is =
       both_read (path_owner_words words) _ o is (λ a some rest.
-      let made = owner_spelled words a are some in
-      subst (IsOpNamed verb.Chown) (same_Ok (op.Chown a.0 a.1.0 a.1.1) o rest) (record { spelled = (made.path, made.uid, made.gid); named = refl }))
+      let made = owner_spelled words a are some in subst Spelled (same_Ok (op.Chown a.0 a.1.0 a.1.1) o rest) (made.path, made.uid, made.gid))
   op_spelled verb.Truncate words o are is =
-      pair_op verb.Truncate (λ p n. op.Truncate p n) (number_word 9223372036854775807) (λ n. n ≤ 9223372036854775807) words o (word_small 9223372036854775807)
-      (λ p n path small. record { spelled = (path, omega (arith, small)); named = refl }) are is
-  op_spelled verb.Unlink words o are is = path_op verb.Unlink (λ p. op.Unlink p) words o (λ p path. record { spelled = path; named = refl }) are is
-  op_spelled verb.Rmdir words o are is = path_op verb.Rmdir (λ p. op.Rmdir p) words o (λ p path. record { spelled = path; named = refl }) are is
+      pair_op (λ p n. op.Truncate p n) (number_word 9223372036854775807) (λ n. n ≤ 9223372036854775807) words o (word_small 9223372036854775807) (λ p n path small. (path, omega (arith, small))) are is
+  op_spelled verb.Unlink words o are is = path_op (λ p. op.Unlink p) words o (λ p path. path) are is
+  op_spelled verb.Rmdir words o are is = path_op (λ p. op.Rmdir p) words o (λ p path. path) are is
   op_spelled verb.Rename words o are is =
-      both_read (two_path_words words) _ o is (λ a some rest.
-      let made = two_spelled words a are some in subst (IsOpNamed verb.Rename) (same_Ok (op.Rename a.0 a.1) o rest) (record { spelled = (made.old, made.new); named = refl }))
-  op_spelled verb.List words o are is = path_op verb.List (λ p. op.List p) words o (λ p path. record { spelled = path; named = refl }) are is
+      both_read (two_path_words words) _ o is (λ a some rest. let made = two_spelled words a are some in subst Spelled (same_Ok (op.Rename a.0 a.1) o rest) (made.old, made.new))
+  op_spelled verb.List words o are is = path_op (λ p. op.List p) words o (λ p path. path) are is
   op_spelled verb.Place words o are is =
-      both_read (name_rule_words words) _ o is (λ a some rest.
-      let made = placed_spelled words a are some in subst (IsOpNamed verb.Place) (same_Ok (op.Place a.0 a.1) o rest) (record { spelled = (made.name, made.rule); named = refl }))
-
-  word_served : (word : List ℕ) (verb : Verb) → served_word word ≡ Some verb → is_served_verb verb ≡ true
-  word_served word verb is =
-      option_and_then_some if_served (verb_word word) verb is (λ v some rest. let found = cond_some (is_served_verb v) v verb rest in subst (λ u. is_served_verb u ≡ true) found.1 found.0)
+      both_read (name_rule_words words) _ o is (λ a some rest. let made = placed_spelled words a are some in subst Spelled (same_Ok (op.Place a.0 a.1) o rest) (made.name, made.rule))
 
   -- a call that is read
   pub words_spelled : (lanes : ℕ) (words : List (List ℕ)) (line : ScriptCall) → AllByRecursion Word words → call_words lanes words ≡ Ok line → IsLineOf Path Name lanes line
@@ -245,15 +233,13 @@ module _ (Word : List ℕ → Type 0) (Path : PathArg → Type 0) (Name : List �
   words_spelled lanes (a ∷ b ∷ c ∷ words) line are is =
       both_read (or_rule 6 (number_from_one lanes a)) _ line is (λ lane first rest.
       both_read (or_rule 7 (cred_word b)) _ line rest (λ cred second more.
-      both_read (or_rule 8 (served_word c)) _ line more (λ verb third on.
+      both_read (or_rule 8 (verb_word c)) _ line more (λ verb third on.
       both_read (op_words verb words) _ line on (λ o fourth done.
       let here = counted_small lanes a lane (ruled 6 _ lane first) in
       let caller = cred_small b cred (ruled 7 _ cred second) in
-      let made = op_spelled verb words o are.1.1.1 fourth in
-      let served = word_served c verb (ruled 8 _ verb third) in
       subst (IsLineOf Path Name lanes) (same_Ok (record { lane = lane; call = record { cred = cred; op = o } }) line done)
       (record {
         from_one = here.some;
         within = here.within;
-        call = record { uid = caller.uid; gid = caller.gid; op = made.spelled; served = subst (λ v. is_served_verb v ≡ true) (sym made.named) served };
+        call = record { uid = caller.uid; gid = caller.gid; op = op_spelled verb words o are.1.1.1 fourth };
       })))))

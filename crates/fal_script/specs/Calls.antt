@@ -10,7 +10,7 @@ use Rattle.fal_script.specs.declared.verbs.Verb.TheVariants as verb
 use Rattle.fal_script.specs.Arguments.{cred_word, path_word, name_word, mode_word, number_word, rule_word}
 use Rattle.fal_script.specs.Numbers.{number_from_one}
 use Rattle.fal_script.specs.ReadAs.{or_rule, ◌=>>◌}
-use Rattle.fal_script.specs.Verbs.{served_word}
+use Rattle.fal_script.specs.Verbs.{verb_word}
 
 -- a path alone
 unfoldable pub path_words : List (List ℕ) → Result PathArg ℕ
@@ -57,7 +57,7 @@ unfoldable pub call_words : ℕ → List (List ℕ) → Result ScriptCall ℕ
 call_words lanes (lane ∷ cred ∷ verb ∷ arguments) =
     or_rule 6 (number_from_one lanes lane) =>> λ l.
     or_rule 7 (cred_word cred) =>> λ c.
-    or_rule 8 (served_word verb) =>> λ v.
+    or_rule 8 (verb_word verb) =>> λ v.
     op_words v arguments =>> λ o.
     Ok (record { lane = l; call = record { cred = c; op = o } })
 call_words lanes other = Err 5

@@ -10,7 +10,6 @@ use Rattle.fal_base.specs.Names.{is_name}
 use Rattle.fal_base.specs.PathArgs.{path_arg_of}
 use Rattle.fal_script.specs.declared.script.Script.{Script}
 use Rattle.fal_script.specs.declared.script.ScriptCall.{ScriptCall}
-use Rattle.fal_script.specs.Verbs.{is_served_verb, verb_of}
 
 -- a rule of placement whose node fits 16 bits
 abbrev pub IsSpelledRule : Rule → Type 0
@@ -35,12 +34,11 @@ module _ (Path : PathArg → Type 0) (Name : List ℕ → Type 0) where
   IsOpOf (op.List path) = Path path
   IsOpOf (op.Place name rule) = Name name × IsSpelledRule rule
 
-  -- a call's caller fits 32 bits, and its operation is such a one and served
+  -- a call's caller fits 32 bits, and its operation is such a one
   pub record IsCallOf (call : Call) : Type 0 where
     pub uid : call.cred.uid < 2 ^ 32
     pub gid : call.cred.gid < 2 ^ 32
     pub op : IsOpOf call.op
-    pub served : IsTrue (is_served_verb (verb_of call.op))
 
   -- a line's lane is one of so many, and its call is such a one
   pub record IsLineOf (lanes : ℕ) (line : ScriptCall) : Type 0 where

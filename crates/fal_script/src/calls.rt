@@ -7,7 +7,7 @@ use crate::arguments::{cred_word, mode_word, name_word, number_word, path_word, 
 use crate::fault::Broken;
 use crate::numbers::number_from_one;
 use crate::script::ScriptCall;
-use crate::verbs::{Verb, served_word};
+use crate::verbs::{Verb, verb_word};
 use fal_base::{Call, Name, Op, PathArg, Rule};
 use std::alloc::Global;
 
@@ -175,7 +175,7 @@ pub fn call_words(alloc: Global, lanes: u8, words: &[&[u8]]) -> Result<ScriptCal
         [lane, cred, verb, arguments @ ..] => {
             let lane = or_rule(number_from_one(lanes, lane), 6)?;
             let cred = or_rule(cred_word(cred), 7)?;
-            let verb = or_rule(served_word(verb), 8)?;
+            let verb = or_rule(verb_word(verb), 8)?;
             let op = op_words(alloc, verb, arguments)?;
             let call = Call { cred, op };
             Ok(ScriptCall { lane, call })

@@ -1,5 +1,5 @@
 ghost use Rattle.std.specs.Prelude.{◌≡◌};
-ghost use Rattle.fal_script.specs.Verbs.{verb_word as verb_of, is_served_verb as is_served_of, served_word as served_of};
+ghost use Rattle.fal_script.specs.Verbs.{verb_word as verb_of};
 
 use crate::words::is_word;
 
@@ -20,7 +20,7 @@ pub enum Verb {
     Place,
 }
 
-/// The operation that a word names, served or not.
+/// The operation that a word names.
 #[tactic(auto, unfolding(crate::specs::Verbs::verb_word))]
 pub fn verb_word(word: &[u8]) -> Option<Verb>
     ensures { result ≡ verb_of word.now }
@@ -52,19 +52,4 @@ pub fn verb_word(word: &[u8]) -> Option<Verb>
     } else {
         None
     }
-}
-
-// Whether clusters serve the operation. A script cannot name one that they do not serve yet.
-fn is_served(verb: Verb) -> bool
-    ensures { result ≡ is_served_of verb }
-{
-    !matches!(verb, Verb::List)
-}
-
-/// The operation that a word names, where clusters serve it.
-pub fn served_word(word: &[u8]) -> Option<Verb>
-    ensures { result ≡ served_of word.now }
-{
-    let verb = verb_word(word)?;
-    if is_served(verb) { Some(verb) } else { None }
 }

@@ -33,6 +33,7 @@ pub mod NoneDue
 pub mod OnWay
 pub mod OneByOne
 pub mod Quiet
+pub mod Renewed
 pub mod SendCounts
 pub mod Sent
 pub mod Staged

@@ -9,12 +9,14 @@ pub mod Enabled
 pub mod EnabledClient
 pub mod ExecEvent
 pub mod ExecHolds
+pub mod ExecNotes
 pub mod ExecStep
 pub mod Freed
 pub mod GetEvent
 pub mod GotEvent
 pub mod HandedCalls
 pub mod HeldCalls
+pub mod Hearing
 pub mod InCoord
 pub mod InStep
 pub mod InstallEvent

@@ -7,6 +7,7 @@ pub mod Ground
 pub mod GroundPlaces
 pub mod Knowing
 pub mod Lanes
+pub mod Listings
 pub mod Operation
 pub mod OperationCalls
 pub mod OperationEnds

@@ -5,6 +5,7 @@ pub mod Families
 pub mod Gathers
 pub mod Good
 pub mod Histories
+pub mod Listing
 pub mod Lists
 pub mod Phase
 pub mod Ranges

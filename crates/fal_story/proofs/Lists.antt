@@ -10,4 +10,5 @@ pub mod MadeLists
 pub mod Members
 pub mod Newer
 pub mod OpenedFetches
+pub mod Parts
 pub mod WaitLists

@@ -1,13 +1,17 @@
 -- Where a call is.
-use Rattle.std.proofs.Common.{ℕ, Option, Some, None, ◌≡◌, refl, sym, subst, ◌∙◌}
+use Rattle.std.proofs.Common.{ℕ, Option, Some, None, ◌≡◌, ◌⊎◌, inl, inr, refl, sym, subst, ◌∙◌}
 use Rattle.fal_base.specs.declared.reply.Reply.{Reply}
 use Rattle.fal_story.proofs.Lists.Grown.{put_all}
 use Rattle.fal_story.specs.World.{put}
 use Rattle.fal_run.specs.declared.call.BatchCall.{BatchCall}
 
--- what a lane's call is told at its end: an answer, with its point
+-- what a call that was executed has come to: an answer, with its point; or the directory that it lists, which was opened at a point
 pub data Answer : Type 0 where
   Replies : (point : ℕ) (reply : Reply) → Answer
+  -- its client is not told of the directory yet
+  Opens : (point dir : ℕ) → Answer
+  -- its client asks each node for its part
+  Lists : (point dir : ℕ) → Answer
 
 -- where the one live copy of a lane's call is
 pub data Phase : Type 0 where
@@ -21,7 +25,7 @@ pub data Phase : Type 0 where
   Runs : Phase
   -- the table of its client is of this version, and a later one is under way to it
   Told : (old new : ℕ) → Phase
-  -- its answer is under way
+  -- it was executed: its answer is under way, or the parts of it
   Tells : (answer : Answer) → Phase
 
 -- the call was not yet executed
@@ -33,6 +37,42 @@ IsUnanswered (Plans n x) = Unit {0}
 IsUnanswered Runs = Unit {0}
 IsUnanswered (Told old new) = Unit {0}
 IsUnanswered (Tells answer) = ⊥
+
+-- the call was not yet executed, or its client has still to be told of the directory that it lists
+abbrev pub IsUnopened : Phase → Type 0
+IsUnopened Idle = ⊥
+IsUnopened (Asked n) = Unit {0}
+IsUnopened (Waits n f) = Unit {0}
+IsUnopened (Plans n x) = Unit {0}
+IsUnopened Runs = Unit {0}
+IsUnopened (Told old new) = Unit {0}
+IsUnopened (Tells (Replies point reply)) = ⊥
+IsUnopened (Tells (Opens point dir)) = Unit {0}
+IsUnopened (Tells (Lists point dir)) = ⊥
+
+pub live_unopened : (p : Phase) → IsUnanswered p → IsUnopened p
+live_unopened Idle is = is
+live_unopened (Asked n) is = tt
+live_unopened (Waits n f) is = tt
+live_unopened (Plans n x) is = tt
+live_unopened Runs is = tt
+live_unopened (Told old new) is = tt
+live_unopened (Tells answer) is = absurd is
+
+-- no listing is under way
+abbrev pub IsUnlisted : Phase → Type 0
+IsUnlisted (Tells (Opens point dir)) = ⊥
+IsUnlisted (Tells (Lists point dir)) = ⊥
+IsUnlisted other = Unit {0}
+
+pub live_unlisted : (p : Phase) → IsUnanswered p → IsUnlisted p
+live_unlisted Idle is = tt
+live_unlisted (Asked n) is = tt
+live_unlisted (Waits n f) is = tt
+live_unlisted (Plans n x) is = tt
+live_unlisted Runs is = tt
+live_unlisted (Told old new) is = tt
+live_unlisted (Tells answer) is = absurd is
 
 -- the call was not yet executed, and is at this node or on its way to it
 abbrev pub IsFor : ℕ → Phase → Type 0
@@ -96,11 +136,14 @@ IsPast (Tells answer) = Unit {0}
 
 -- ---- calls that move
 
--- of a call that moves: it is under way if it was, is not executed only if it was not, and stays answered
+-- of a call that moves: it is under way if it was, is not executed only if it was not, and stays answered; a listing goes on
 pub record Goes (p q : Phase) : Type 0 where
   pub still : p ≡ Idle → q ≡ Idle
   pub live : IsUnanswered q → IsUnanswered p
-  pub done : (answer : Answer) → p ≡ Tells answer → q ≡ Tells answer
+  pub unopened : IsUnopened q → IsUnopened p
+  pub done : (point : ℕ) (reply : Reply) → p ≡ Tells (Replies point reply) → q ≡ Tells (Replies point reply)
+  pub opened : (point dir : ℕ) → p ≡ Tells (Opens point dir) → (q ≡ Tells (Opens point dir)) ⊎ (q ≡ Tells (Lists point dir))
+  pub listing : (point dir : ℕ) → p ≡ Tells (Lists point dir) → q ≡ Tells (Lists point dir)
 
 -- one that is on its way to an actor stays so
 abbrev pub Stays : Phase → Phase → Type 0
@@ -123,14 +166,39 @@ IsPlace (Told old new) = Unit {0}
 IsPlace (Tells answer) = Unit {0}
 
 pub goes_same : (p q : Phase) → q ≡ p → Goes p q
-goes_same p q same = record { still = λ e. same ∙ e; live = λ e. subst IsUnanswered same e; done = λ answer e. same ∙ e }
+goes_same p q same = record {
+  still = λ e. same ∙ e;
+  live = λ e. subst IsUnanswered same e;
+  unopened = λ e. subst IsUnopened same e;
+  done = λ point reply e. same ∙ e;
+  opened = λ point dir e. inl (same ∙ e);
+  listing = λ point dir e. same ∙ e;
+}
 
 pub steady_same : (p q : Phase) → q ≡ p → IsSteady p q
 steady_same p q same = record { runs = λ e. same ∙ e; ran = λ e. sym same ∙ e; past = λ e. subst IsPast (sym same) e }
 
 -- a call that was not executed goes anywhere
 pub goes_live : (p q : Phase) → IsUnanswered p → Goes p q
-goes_live p q live = record { still = λ e. absurd (subst IsUnanswered e live); live = λ _. live; done = λ answer e. absurd (subst IsUnanswered e live) }
+goes_live p q live = record {
+  still = λ e. absurd (subst IsUnanswered e live);
+  live = λ _. live;
+  unopened = λ _. live_unopened p live;
+  done = λ point reply e. absurd (subst IsUnanswered e live);
+  opened = λ point dir e. absurd (subst IsUnanswered e live);
+  listing = λ point dir e. absurd (subst IsUnanswered e live);
+}
+
+-- the client of a listing is told of its directory
+pub goes_on : (point dir : ℕ) (p q : Phase) → p ≡ Tells (Opens point dir) → q ≡ Tells (Lists point dir) → Goes p q
+goes_on point dir p q was is = record {
+  still = λ e. let none : Tells (Opens point dir) ≡ Idle = sym was ∙ e in absurd (cc);
+  live = λ e. absurd (subst IsUnanswered is e);
+  unopened = λ e. absurd (subst IsUnopened is e);
+  done = λ k reply e. let none : Tells (Opens point dir) ≡ Tells (Replies k reply) = sym was ∙ e in absurd (cc);
+  opened = λ k d e. inr (is ∙ (let same : Tells (Opens point dir) ≡ Tells (Opens k d) = sym was ∙ e in cc));
+  listing = λ k d e. let none : Tells (Opens point dir) ≡ Tells (Lists k d) = sym was ∙ e in absurd (cc);
+}
 
 pub stays_taken : (p q : Phase) → IsTaken p → Stays p q
 stays_taken p q taken n e = absurd (subst IsTaken e taken)

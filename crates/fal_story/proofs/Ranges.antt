@@ -18,7 +18,9 @@ pub mod GatherRanges
 pub mod GivenNews
 pub mod GivenRows
 pub mod InRange
+pub mod ListRecords
 pub mod MessageRanges
+pub mod NamesUnder
 pub mod NoMore
 pub mod NodeRanges
 pub mod OperationRecords
@@ -26,10 +28,12 @@ pub mod OwnRows
 pub mod PlaceRanges
 pub mod PlaceRecords
 pub mod PlacingCounts
+pub mod RecordFits
 pub mod RowCounts
 pub mod RowRanges
 pub mod StaleRecords
 pub mod TableRanges
 pub mod TreeBounds
+pub mod TreeNames
 pub mod TreeNumbers
 pub mod WaitRanges

@@ -9,6 +9,7 @@ pub mod Decides
 pub mod Executed
 pub mod Fetching
 pub mod Learned
+pub mod Listed
 pub mod Moved
 pub mod Outcomes
 pub mod PathsMet

@@ -3,7 +3,9 @@ pub mod Changed
 pub mod CommitRows
 pub mod Commits
 pub mod Footprint
+pub mod InOrder
 pub mod Laid
+pub mod Listed
 pub mod Met
 pub mod NextTable
 pub mod Noted
@@ -13,9 +15,11 @@ pub mod Ordered
 pub mod PathWalks
 pub mod Paths
 pub mod PlaceAnswers
+pub mod Parted
 pub mod Placings
 pub mod RowsOnce
 pub mod Rules
+pub mod Shares
 pub mod Standing
 pub mod TakenOut
 pub mod Transcript

@@ -17,24 +17,8 @@ use Rattle.fal_base.specs.PathArgs.{IsRead}
 use Rattle.fal_wire.specs.Numbers.{cred_field}
 use Rattle.fal_wire.specs.Ops.{op_field}
 
--- the operations that are built: all but listings
-abbrev pub is_served : Op → Bool
-is_served (op.Mkdir path mode) = true
-is_served (op.Create path mode) = true
-is_served (op.Stat path) = true
-is_served (op.Access path want) = true
-is_served (op.Truncate path size) = true
-is_served (op.Unlink path) = true
-is_served (op.Chmod path mode) = true
-is_served (op.Chown path uid gid) = true
-is_served (op.Rmdir path) = true
-is_served (op.Rename old new) = true
-is_served (op.Place name rule) = true
-is_served other = false
-
--- the call is served, a bad path has the fault of its bytes, and where its path is good a record can hold the call
+-- a bad path has the fault of its bytes, and where its path is good a record can hold the call
 pub record IsCall (call : Call) : Type 0 where
-  pub served : IsTrue (is_served call.op)
   pub read : All IsRead (paths_of call.op)
   pub fits : bad_path call.op ≡ None → cred_field.Fits call.cred × op_field.Fits call.op
 
@@ -49,7 +33,7 @@ IsRuleInRange rule.Hash = Unit {0}
 IsRuleInRange rule.ByParent = Unit {0}
 IsRuleInRange (rule.Node node) = node < 2 ^ 16
 
--- the operation is served, its paths are such ones, and its numbers are in range
+-- the paths of the operation are such ones, and its numbers are in range
 abbrev pub IsOpInRange : Op → Type 0
 IsOpInRange (op.Mkdir path mode) = IsPathInRange path × (mode < 512)
 IsOpInRange (op.Create path mode) = IsPathInRange path × (mode < 512)
@@ -62,9 +46,9 @@ IsOpInRange (op.Chown path uid gid) = IsPathInRange path × (uid < 2 ^ 32) × (g
 IsOpInRange (op.Rmdir path) = IsPathInRange path
 IsOpInRange (op.Rename old new) = IsPathInRange old × IsPathInRange new
 IsOpInRange (op.Place name rule) = IsTrue (is_name name) × IsRuleInRange rule
-IsOpInRange other = ⊥
+IsOpInRange (op.List path) = IsPathInRange path
 
--- the same in numbers: the call is served, and its paths and its numbers are in range
+-- the same in numbers: the paths of the call and its numbers are in range
 pub record IsCallInRange (call : Call) : Type 0 where
   pub uid : call.cred.uid < 2 ^ 32
   pub gid : call.cred.gid < 2 ^ 32
@@ -80,7 +64,7 @@ is_lane config lane = nat_lt 0 lane && nat_le lane (length config.lanes)
 abbrev pub is_node : Config → ℕ → Bool
 is_node config node = nat_lt node config.nodes
 
--- 1 to 16 nodes and lanes, batches of 1 to 64 calls, and at most 10,000 calls, each of which is one that is served
+-- 1 to 16 nodes and lanes, batches of 1 to 64 calls, and at most 10,000 calls, each of which is such a one
 pub record IsCluster (config : Config) : Type 0 where
   pub some_nodes : 1 ≤ config.nodes
   pub few_nodes : config.nodes ≤ 16

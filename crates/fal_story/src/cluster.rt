@@ -5,7 +5,7 @@ ghost use Rattle.fal_base.specs.declared.call.Call.{Call as CallSeen};
 ghost use Rattle.fal_base.specs.declared.op.Op.TheVariants as Op;
 ghost use Rattle.fal_base.specs.OpPaths.{bad_path, fault_of, paths_of};
 ghost use Rattle.fal_base.specs.PathArgs.{IsRead};
-ghost use Rattle.fal_story.specs.Clusters.{IsCall, IsCluster, IsCallInRange, IsRuleInRange, is_served};
+ghost use Rattle.fal_story.specs.Clusters.{IsCall, IsCluster, IsCallInRange, IsRuleInRange};
 ghost use Rattle.fal_base.specs.Names.{is_name as is_name_of};
 ghost use Rattle.fal_base.specs.Paths.{path_bytes};
 ghost use Rattle.fal_wire.specs.Names.{path_arg_field, path_field};
@@ -118,9 +118,9 @@ fn is_placing(name: &Name, rule: &Rule) -> bool
     is_name(name.bytes()) && is_rule(rule)
 }
 
-// Whether the operation is served, a bad path has the fault of its bytes, and a record can hold the operation where its path is good.
+// Whether a bad path has the fault of its bytes, and a record can hold the operation where its path is good.
 fn is_op(op: &Op) -> bool
-    ensures { IsTrue result ↔ IsTrue (is_served op.now) × All IsRead (paths_of op.now) × (bad_path op.now ≡ None → op_field.Fits op.now) }
+    ensures { IsTrue result ↔ All IsRead (paths_of op.now) × (bad_path op.now ≡ None → op_field.Fits op.now) }
 {
     match op {
         Op::Mkdir { path, mode } => is_held(path, *mode < 512),
@@ -133,7 +133,7 @@ fn is_op(op: &Op) -> bool
         Op::Chown { path, uid, gid } => is_chown(path, *uid, *gid),
         Op::Rmdir { path } => is_held(path, true),
         Op::Rename { old, new } => are_held(old, new),
-        Op::List { .. } => false,
+        Op::List { path } => is_held(path, true),
         Op::Place { name, rule } => is_placing(name, rule),
     }
 }
@@ -149,7 +149,7 @@ fn is_call(call: &Call) -> bool
     is_op(&call.op)
 }
 
-/// A call with a served operation may stand in a cluster where its path and its numbers are in range.
+/// A call may stand in a cluster where its paths and its numbers are in range.
 pub fn calls_in_range_may_run()
     ensures { (call : CallSeen) → IsCallInRange call → IsCall call }
 {}

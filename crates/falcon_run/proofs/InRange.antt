@@ -16,7 +16,6 @@ use Rattle.fal_base.specs.PathArgs.{arg_of, err_of}
 use Rattle.fal_base.specs.Paths.{path_of}
 use Rattle.fal_script.specs.Configs.{lane_calls}
 use Rattle.fal_script.specs.Ranges.{IsSpelledScript, IsSpelled, IsSpelledCall, IsSpelledOp, IsSpelledRule}
-use Rattle.fal_script.specs.Verbs.{is_served_verb, verb_of}
 use Rattle.fal_script.specs.declared.script.Script.{Script}
 use Rattle.fal_script.specs.declared.script.ScriptCall.{ScriptCall}
 use Rattle.fal_story.specs.Clusters.{IsCall, IsCluster, IsCallInRange, IsOpInRange, IsPathInRange, IsRuleInRange}
@@ -38,22 +37,22 @@ rule_in_range rule.Hash is = tt
 rule_in_range rule.ByParent is = tt
 rule_in_range (rule.Node node) is = is
 
-op_in_range : (o : Op) → IsSpelledOp o → is_served_verb (verb_of o) ≡ true → IsOpInRange o
-op_in_range (op.Mkdir path mode) is served = (path_in_range path is.0, is.1)
-op_in_range (op.Create path mode) is served = (path_in_range path is.0, is.1)
-op_in_range (op.Stat path) is served = path_in_range path is
-op_in_range (op.Access path want) is served = (path_in_range path is.0, is.1)
-op_in_range (op.Chmod path mode) is served = (path_in_range path is.0, is.1)
-op_in_range (op.Chown path uid gid) is served = (path_in_range path is.0, is.1, is.2)
-op_in_range (op.Truncate path size) is served = (path_in_range path is.0, is.1)
-op_in_range (op.Unlink path) is served = path_in_range path is
-op_in_range (op.Rmdir path) is served = path_in_range path is
-op_in_range (op.Rename old new) is served = (path_in_range old is.0, path_in_range new is.1)
-op_in_range (op.List path) is served = absurd (cc)
-op_in_range (op.Place name rule) is served = (is.0, rule_in_range rule is.1)
+op_in_range : (o : Op) → IsSpelledOp o → IsOpInRange o
+op_in_range (op.Mkdir path mode) is = (path_in_range path is.0, is.1)
+op_in_range (op.Create path mode) is = (path_in_range path is.0, is.1)
+op_in_range (op.Stat path) is = path_in_range path is
+op_in_range (op.Access path want) is = (path_in_range path is.0, is.1)
+op_in_range (op.Chmod path mode) is = (path_in_range path is.0, is.1)
+op_in_range (op.Chown path uid gid) is = (path_in_range path is.0, is.1, is.2)
+op_in_range (op.Truncate path size) is = (path_in_range path is.0, is.1)
+op_in_range (op.Unlink path) is = path_in_range path is
+op_in_range (op.Rmdir path) is = path_in_range path is
+op_in_range (op.Rename old new) is = (path_in_range old is.0, path_in_range new is.1)
+op_in_range (op.List path) is = path_in_range path is
+op_in_range (op.Place name rule) is = (is.0, rule_in_range rule is.1)
 
 call_in_range : (call : Call) → IsSpelledCall call → IsCallInRange call
-call_in_range call is = record { uid = is.uid; gid = is.gid; op = op_in_range call.op is.op is.served }
+call_in_range call is = record { uid = is.uid; gid = is.gid; op = op_in_range call.op is.op }
 
 -- ---- all calls
 

@@ -1,15 +1,17 @@
 -- What a run of the program answers and writes.
-use Rattle.std.specs.Prelude.{◌≡◌, ◌⊎◌, ℕ, ◌<◌, ◌≤◌, nat_lt, if◌then◌else◌, List, [], ◌∷◌, ◌++◌, length, map, codes, Option, Some, None, Result, Ok, Err, string_bytes}
+use Rattle.std.specs.Prelude.{◌≡◌, ◌⊎◌, ℕ, ◌*◌, ◌<◌, ◌≤◌, nat_lt, Bool, ◌||◌, if◌then◌else◌, List, [], ◌∷◌, ◌++◌, length, map, count_by, codes, Option, Some, None, Result, Ok, Err, string_bytes}
 use Rattle.std.specs.declared.string.String.{String}
 use Rattle.std.specs.declared.alloc.Global.{Global}
 use Rattle.std.specs.Fmt.{decimal}
 use Rattle.std.specs.Io.KnownBytes.{Consumes, Appends, IsAtEnd}
 use Rattle.fal_base.specs.declared.call.Config.{Config}
 use Rattle.fal_base.specs.declared.event.Event.{Event}
+use Rattle.fal_base.specs.Transcript.{is_list}
 use Rattle.fal_io.specs.Causes.{Rose, AppendsFront}
 use Rattle.fal_script.specs.declared.fault.ScriptFault.{ScriptFault}
 use Rattle.fal_script.specs.declared.fault.ScriptFault.TheVariants.{Fault}
 use Rattle.fal_script.specs.declared.script.Script.{Script}
+use Rattle.fal_script.specs.declared.script.ScriptCall.{ScriptCall}
 use Rattle.fal_script.specs.Configs.{config_of_script, order_of}
 use Rattle.fal_script.specs.Script.{script_of}
 use Rattle.fal_story.specs.Run.{IsLegal}
@@ -47,20 +49,29 @@ fault_line = codes "falcon: read fault\n"
 abbrev pub large_line : List ℕ
 large_line = codes "falcon: too large\n"
 
--- the bytes are a script of more calls than are served
-abbrev pub HasTooMany : List ℕ → Type 0
-HasTooMany bytes = (script : Script) × (script_of bytes ≡ Ok script) × (10000 < length script.lines)
+-- whether the line's call is a list
+abbrev pub is_list_line : ScriptCall → Bool
+is_list_line line = is_list line.call.op
 
--- the source gave all that it had, a script of not too many calls
+-- how many calls of the script are lists
+abbrev pub lists_of : Script → ℕ
+lists_of script = count_by is_list_line script.lines
+
+-- the bytes are a script of more calls than are served, or of more lists than are served for so many bytes
+abbrev pub HasTooMany : List ℕ → Type 0
+HasTooMany bytes = (script : Script) × (script_of bytes ≡ Ok script) × ((10000 < length script.lines) ⊎ (134217728 < lists_of script * length bytes))
+
+-- the source gave all that it had, a script of not too many calls, nor of too many lists for so many bytes
 abbrev pub GaveScript : Option (List ℕ) → Option (List ℕ) → Script → Type 0
 GaveScript left rest script =
     (bytes : List ℕ) × Consumes left rest bytes × IsAtEnd rest × (length bytes ≤ 16777216) × (script_of bytes ≡ Ok script) × (length script.lines ≤ 10000)
+    × (lists_of script * length bytes ≤ 134217728)
 
 -- the source gave all that it had, within the limit, and that is no script: this line is the first that breaks a rule, and this rule the lowest
 abbrev pub GaveNoScript : Option (List ℕ) → Option (List ℕ) → ℕ → ℕ → Type 0
 GaveNoScript left rest line rule = (bytes : List ℕ) × Consumes left rest bytes × IsAtEnd rest × (length bytes ≤ 16777216) × (script_of bytes ≡ Err (Fault line rule))
 
--- the source gave more bytes than are read, or all that it had, a script of too many calls
+-- the source gave more bytes than are read, or all that it had, a script of too many calls or lists
 abbrev pub GaveTooMuch : Option (List ℕ) → Option (List ℕ) → Type 0
 GaveTooMuch left rest = (bytes : List ℕ) × Consumes left rest bytes × ((16777216 < length bytes) ⊎ (IsAtEnd rest × HasTooMany bytes))
 
@@ -68,13 +79,18 @@ GaveTooMuch left rest = (bytes : List ℕ) × Consumes left rest bytes × ((1677
 abbrev pub LostFront : Option (List ℕ) → Option (List ℕ) → Type 0
 LostFront left rest = (bytes : List ℕ) × Consumes left rest bytes
 
-abbrev pub owed_script : Result Script ScriptFault → ℕ
-owed_script (Err fault) = 3
-owed_script (Ok script) = if nat_lt 10000 (length script.lines) then 7 else 0
+-- whether a script of so many bytes has more calls or lists than are served
+abbrev pub is_too_large : ℕ → Script → Bool
+is_too_large size script = nat_lt 10000 (length script.lines) || nat_lt 134217728 (lists_of script * size)
+
+-- the status that so many bytes are owed by the script that they spell
+abbrev pub owed_script : ℕ → Result Script ScriptFault → ℕ
+owed_script size (Err fault) = 3
+owed_script size (Ok script) = if is_too_large size script then 7 else 0
 
 -- the status that these bytes are owed where no stream fails
 abbrev pub owed : List ℕ → ℕ
-owed bytes = if nat_lt 16777216 (length bytes) then 7 else owed_script (script_of bytes)
+owed bytes = if nat_lt 16777216 (length bytes) then 7 else owed_script (length bytes) (script_of bytes)
 
 -- a text was appended whole, or only a front of it where the count of faults has risen
 abbrev pub Wrote : List ℕ → Option (List ℕ) → Option (List ℕ) → ℕ → ℕ → Type 0

@@ -1,16 +1,16 @@
 -- What reading a script gives, or why there is none.
-use Rattle.std.specs.Prelude.{◌≡◌, ℕ, ◌≤◌, length, List, Option, Result, Ok, Err}
+use Rattle.std.specs.Prelude.{◌≡◌, ℕ, ◌*◌, ◌≤◌, length, List, Option, Result, Ok, Err}
 use Rattle.fal_io.specs.Causes.{Rose, Took}
 use Rattle.fal_script.specs.declared.fault.ScriptFault.TheVariants.{Fault}
 use Rattle.fal_script.specs.declared.script.Script.{Script}
 use Rattle.fal_script.specs.Script.{script_of}
 use Rattle.falcon_run.specs.declared.reading.Unread.{Unread}
 use Rattle.falcon_run.specs.declared.reading.Unread.TheVariants.{ReadFault, TooLarge, NoScript, OutOfMemory}
-use Rattle.falcon_run.specs.Headline.{GaveScript, GaveNoScript, GaveTooMuch, HasTooMany, LostFront, owed}
+use Rattle.falcon_run.specs.Headline.{GaveScript, GaveNoScript, GaveTooMuch, HasTooMany, LostFront, lists_of, owed}
 
 -- what bytes that were read whole are as a script
 abbrev pub IsScript : List ℕ → Result Script Unread → Type 0
-IsScript bytes (Ok script) = (script_of bytes ≡ Ok script) × (length script.lines ≤ 10000)
+IsScript bytes (Ok script) = (script_of bytes ≡ Ok script) × (length script.lines ≤ 10000) × (lists_of script * length bytes ≤ 134217728)
 IsScript bytes (Err TooLarge) = HasTooMany bytes
 IsScript bytes (Err (NoScript line rule)) = script_of bytes ≡ Err (Fault line rule)
 IsScript bytes (Err OutOfMemory) = Unit {0}

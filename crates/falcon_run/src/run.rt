@@ -128,7 +128,8 @@ fn run_script<K: Sink>(alloc: Global, script: Script, sink: &mut K, trace: &mut 
 /// - 4, `falcon: read fault`: the source's count of faults rose, and at most 16,777,216 bytes had come.
 /// - 5: the sink's count of faults rose while the text was written, of which it has a front. `trace` is as with 0.
 /// - 6: want of memory. The sink has a front of the text or of a line. `trace` is empty, or has a legal run of the script's cluster.
-/// - 7, `falcon: too large`: more than 16,777,216 bytes came, or a script of more than 10,000 calls.
+/// - 7, `falcon: too large`: more than 16,777,216 bytes came, or a script of more than 10,000 calls, or one whose lists times its bytes are more
+///   than 134,217,728.
 ///
 /// No other status is answered. With 2, 3, 4 and 7 `trace` stays empty, and the line is written whole where the sink's count of faults did not rise.
 pub fn run_serial<S: Source, K: Sink>(

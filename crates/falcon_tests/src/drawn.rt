@@ -1,5 +1,5 @@
 use crate::running::run;
-use fal_base::{Call, CallList, Config, Cred, Entry, LaneList, Op, PathArg};
+use fal_base::{Call, CallList, Config, Cred, Duplicate, Entry, LaneList, Op, PathArg, Reply};
 use fal_report::{put_call, text_of};
 use fal_tree::{ApplyFault, PlainTree};
 use rand_core::utils::NextWord;
@@ -97,6 +97,7 @@ fn op(path: PathArg, other: PathArg, kind: u32, drawn: u32) -> Op {
             gid: 100,
         },
         10 => Op::Rmdir { path },
+        11 => Op::List { path },
         _ => Op::Rename {
             old: path,
             new: other,
@@ -108,7 +109,7 @@ fn call(alloc: Global, source: &mut Lcg64Xsh32) -> Result<Call, Fail> {
     let cred = cred(draw(source, 5));
     let path = path(alloc, source)?;
     let other = self::path(alloc, source)?;
-    let kind = draw(source, 13);
+    let kind = draw(source, 14);
     let op = op(path, other, kind, draw(source, 1024));
     Ok(Call { cred, op })
 }
@@ -146,12 +147,32 @@ fn commit(plain: &mut Plain, call: &Call, seq: u32) -> Result<(), Fail> {
     Ok(())
 }
 
+// Notes the directory that a list has opened, where its answer has names.
+fn open(plain: &mut Plain, call: &Call, seq: u32, reply: &Reply) -> Result<(), Fail> {
+    if let Op::List { path } = &call.op
+        && let Reply::Names(_) = reply
+    {
+        let op = Op::Stat { path: path.copy()? };
+        if let Reply::Stat(inode) = plain.tree.answer(&call.cred, &op)? {
+            let point = u64::from(plain.commits);
+            plain.entries.push(Entry::Opened {
+                lane: 1,
+                seq,
+                ino: inode.ino,
+                point,
+            })?;
+        }
+    }
+    Ok(())
+}
+
 fn step(plain: &mut Plain, call: &Call, seq: u32) -> Result<(), Fail> {
     if let Op::Place { .. } = &call.op {
         return Ok(());
     }
     plain.entries.push(Entry::Sent { lane: 1, seq })?;
     let reply = plain.tree.answer(&call.cred, &call.op)?;
+    open(plain, call, seq, &reply)?;
     let point = u64::from(plain.commits);
     commit(plain, call, seq)?;
     plain.entries.push(Entry::Answered {

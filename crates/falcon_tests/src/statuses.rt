@@ -8,6 +8,8 @@ const HEADER: &str = "falcon-script 1\nnodes 1\nlanes 1\n";
 
 const LOOK: &str = "1 0:0 stat /a\n";
 
+const LIST: &str = "1 0:0 list /\n";
+
 const CALL: &str = "falcon-script 1\nnodes 1\nlanes 1\n1 0:0 stat /";
 
 fn with_words(alloc: Global, words: &[&str]) -> Result<Ran, Fail> {
@@ -87,7 +89,7 @@ fn words_have_their_status(rt: HostRuntime) -> Result<(), Fail> {
 type Faulty = (&'static [u8], u32, u8);
 
 // After a whole header, which has three lines.
-const CALLS: [Faulty; 28] = [
+const CALLS: [Faulty; 27] = [
     (b"1 0:0\n", 4, 5),
     (b"1\n", 4, 5),
     (b"2 0:0 stat /a\n", 4, 6),
@@ -98,8 +100,6 @@ const CALLS: [Faulty; 28] = [
     (b"1 0:4294967296 stat /a\n", 4, 7),
     (b"1 0:0 Stat /a\n", 4, 8),
     (b"1 0:0 fly /a\n", 4, 8),
-    // no cluster serves it yet
-    (b"1 0:0 list /a\n", 4, 8),
     (b"1 0:0 stat\n", 4, 9),
     (b"1 0:0 stat /a b\n", 4, 9),
     (b"1 0:0 stat /a%\n", 4, 10),
@@ -234,6 +234,28 @@ const MANY: [Long; 2] = [
     (HEADER, LOOK, 10_001, "", 7, "falcon: too large\n"),
 ];
 
+// Its lists times its bytes are at most 134,217,728: of 3,211 lists that is 41,799 bytes.
+const LISTED: [Long; 4] = [
+    (HEADER, LIST, 3_211, "", 0, "falcon-transcript 1\n"),
+    (HEADER, LIST, 3_212, "", 7, "falcon: too large\n"),
+    (
+        HEADER,
+        LIST,
+        3_211,
+        "# of twenty-four bytes\n\n",
+        0,
+        "falcon-transcript 1\n",
+    ),
+    (
+        HEADER,
+        LIST,
+        3_211,
+        "# of twenty-five bytes \n\n",
+        7,
+        "falcon: too large\n",
+    ),
+];
+
 fn repeated(
     alloc: Global,
     start: &str,
@@ -269,6 +291,12 @@ fn a_script_may_be_so_long(rt: HostRuntime) -> Result<(), Fail> {
 #[test]
 fn a_script_may_have_so_many_calls(rt: HostRuntime) -> Result<(), Fail> {
     assert!(rt; have_status(rt.alloc(), &MANY)?);
+    Ok(())
+}
+
+#[test]
+fn a_script_may_list_so_often(rt: HostRuntime) -> Result<(), Fail> {
+    assert!(rt; have_status(rt.alloc(), &LISTED)?);
     Ok(())
 }
 

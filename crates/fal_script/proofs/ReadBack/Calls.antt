@@ -21,7 +21,7 @@ use Rattle.fal_script.specs.Arguments.{cred_parts, cred_word, node_parts, spelle
 use Rattle.fal_script.specs.Calls.{path_words, path_number_words, path_owner_words, two_path_words, name_rule_words, op_words, call_words}
 use Rattle.fal_script.specs.Printed.{IsPrintablePath, IsPrintableName, call_line}
 use Rattle.fal_script.specs.Ranges.{IsSpelledRule, IsOpOf, IsLineOf}
-use Rattle.fal_script.specs.Verbs.{is_served_verb, served_word, verb_word, verb_of}
+use Rattle.fal_script.specs.Verbs.{verb_word}
 use Rattle.fal_script.specs.Words.{is_word}
 use Rattle.fal_script.proofs.ReadBack.Numbers.{number_read, number_word_read, counted_read, decimal_digits, decimal_is_word, mode_read, mode_is_word}
 use Rattle.fal_script.proofs.ReadBack.Paths.{path_read, path_is_word, name_read, name_is_word}
@@ -97,6 +97,21 @@ rule_is_word (Node node) is = record { some = omega arith; dark = each_append (�
 
 -- ---- operations
 
+-- the name of an operation
+abbrev verb_of : Op → Verb
+verb_of (op.Mkdir path mode) = verb.Mkdir
+verb_of (op.Create path mode) = verb.Create
+verb_of (op.Stat path) = verb.Stat
+verb_of (op.Access path want) = verb.Access
+verb_of (op.Chmod path mode) = verb.Chmod
+verb_of (op.Chown path uid gid) = verb.Chown
+verb_of (op.Truncate path size) = verb.Truncate
+verb_of (op.Unlink path) = verb.Unlink
+verb_of (op.Rmdir path) = verb.Rmdir
+verb_of (op.Rename old new) = verb.Rename
+verb_of (op.List path) = verb.List
+verb_of (op.Place name rule) = verb.Place
+
 -- the word of an operation
 abbrev verb_text : Verb → List ℕ
 verb_text verb.Mkdir = codes "mkdir"
@@ -126,9 +141,6 @@ verb_read verb.Rmdir = refl
 verb_read verb.Rename = refl
 verb_read verb.List = refl
 verb_read verb.Place = refl
-
-served_read : (v : Verb) → is_served_verb v ≡ true → served_word (verb_text v) ≡ Some v
-served_read v is = rw (verb_read v, is) refl
 
 verb_is_word : (v : Verb) → IsWord (verb_text v)
 verb_is_word verb.Mkdir = record { some = omega arith; dark = each_dark (codes "mkdir") refl }
@@ -237,4 +249,4 @@ pub call_read : (lanes : ℕ) (line : ScriptCall) → lanes ≤ 16 → IsPrintab
 unfolding call_words
 call_read lanes line few is =
     let within = is.within in
-    rw (counted_read lanes line.lane is.from_one is.within (omega (arith, within, few)), cred_read line.call.cred.uid line.call.cred.gid is.call.uid is.call.gid, served_read (verb_of line.call.op) is.call.served, op_read line.call.op is.call.op) refl
+    rw (counted_read lanes line.lane is.from_one is.within (omega (arith, within, few)), cred_read line.call.cred.uid line.call.cred.gid is.call.uid is.call.gid, verb_read (verb_of line.call.op), op_read line.call.op is.call.op) refl

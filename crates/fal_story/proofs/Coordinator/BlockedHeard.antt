@@ -150,10 +150,10 @@ module _ (config : Config) (w : World) (h : Ghost) (c : CallRec) (rows : List Na
       }
 
   install_fine : (n : ℕ) → n < config.nodes → IsFineHere config w noted later (letter (Node n) (Here 0) (message.Install w.coord.operation next.version rule (share_of next name n (by_parent rows))))
-  install_fine n below = record { asking = tt; records = (n, refl); operation = tt; bars = (n, refl, below, omega arith, λ _. (refl, refl, inr (share_owned name next n (by_parent rows)))); knowing = tt }
+  install_fine n below = record { asking = tt; records = (n, refl); operation = tt; bars = (n, refl, below, omega arith, λ _. (refl, refl, inr (share_owned name next n (by_parent rows)))); knowing = tt; listings = tt }
 
   reply_fine : IsFineHere config w noted later (reply_letter c (Here 0) Fine)
-  reply_fine = record { asking = tt; records = (l, refl, (refl, inr (seq_is, inr (put_same h.phase l (Tells (Replies point Fine)))))); operation = tt; bars = tt; knowing = tt }
+  reply_fine = record { asking = tt; records = (l, refl, (refl, inr (seq_is, inr (put_same h.phase l (Tells (Replies point Fine)))))); operation = tt; bars = tt; knowing = tt; listings = tt }
 
   -- the Installs go to the nodes, and then the answer to the client
   sends : AllFit (name_placed w.coord c placing rows).sent → EndsCoord config w (name_placed w.coord c placing rows)

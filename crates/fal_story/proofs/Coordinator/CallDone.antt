@@ -9,10 +9,10 @@ use Rattle.fal_node.specs.State.{NodeState}
 use Rattle.fal_run.specs.declared.call.BatchCall.{BatchCall}
 use Rattle.fal_wait.specs.declared.waiting_call.WaitingCall.{WaitingCall}
 use Rattle.fal_story.proofs.Events.Besides.{holds_kept}
-use Rattle.fal_story.proofs.Events.HeldCalls.{held_frame}
-use Rattle.fal_story.proofs.Events.Shows.{Held, Heard, Holds, WaitsThere}
+use Rattle.fal_story.proofs.Events.HeldCalls.{AsksNone, held_frame, listed_none}
+use Rattle.fal_story.proofs.Events.Shows.{Held, Heard, Holds, IsListed, WaitsThere}
 use Rattle.fal_story.proofs.Lists.Each.{Each, each_weaker}
-use Rattle.fal_story.proofs.Lists.Grown.{from_put, put_other}
+use Rattle.fal_story.proofs.Lists.Grown.{from_put, put_all, put_other}
 use Rattle.fal_story.proofs.Phase.{Phase, Idle, Plans, Runs, Tells, Replies, IsHeld}
 use Rattle.fal_story.specs.World.{put}
 
@@ -45,5 +45,11 @@ module _ (call : ℕ → CallRec) (phase : ℕ → Phase) (l k : ℕ) (reply : R
     nodes = heard.nodes;
     left = heard.left;
     none = λ e. let idle = heard.none e in put_other phase l done a (λ same. let both = ap phase same ∙ runs in absurd (cc)) ∙ idle;
-    some = λ current e. let x = heard.some current e in ((λ idle. ⊎_elim (λ here. absurd (cc)) (λ there. x.0 there.1) (from_put phase l done a Idle idle)), x.1, x.2, x.3);
+    some = λ current e. let x = heard.some current e in (
+      (λ idle. ⊎_elim (λ here. absurd (cc)) (λ there. x.0 there.1) (from_put phase l done a Idle idle)),
+      x.1,
+      x.2,
+      put_all (λ i p. IsListed config.nodes (phase i) current.listing → IsListed config.nodes p current.listing) phase l done
+          (listed_none config.nodes (phase l) done current.listing (subst AsksNone (sym runs) tt) tt) (λ i _ y. y) a x.3,
+    );
   }

@@ -57,7 +57,7 @@ takes config w h e p c shown posted fit operation newer =
       coord_ends config w h (begun coord) later fit shown (record {
         good = subst (Good config) (same ∙ view_started config (record w { coord = coord }) later) good;
         held = λ n. moved_held h.call h.phase l (Waits 255 None) at_seat busy unplanned n (w.nodes n).waiting.calls (calls_in (w.nodes n).batches) (shown.held n);
-        heard = moved_heard h.call h.phase l (Waits 255 None) at_seat busy unplanned config w shown.heard;
+        heard = moved_heard h.call h.phase l (Waits 255 None) at_seat busy unplanned tt config w shown.heard;
         beside = record {
           queues = shown.beside.queues;
           holding = λ n. moved_holds h.call h.phase l (Waits 255 None) at_seat busy unplanned h.crossed h.crossed (λ a _. refl) n (w.nodes n) (shown.beside.holding n);

@@ -16,7 +16,7 @@ use Rattle.fal_base.specs.Answer.{answer}
 use Rattle.fal_base.specs.Change.{makes}
 use Rattle.fal_base.specs.Commits.{Commit}
 use Rattle.fal_base.specs.Maps.{value_at}
-use Rattle.fal_base.specs.Transcript.{call_of, commits_of, commit_by, is_place}
+use Rattle.fal_base.specs.Transcript.{call_of, commits_of, commit_by, is_names, is_place}
 use Rattle.fal_coord.specs.declared.stage.Operation.{Operation}
 use Rattle.fal_coord.specs.declared.stage.Stage.{Stage}
 use Rattle.fal_coord.specs.declared.stage.Stage.TheVariants as stage
@@ -136,14 +136,14 @@ module _ (config : Config) (w : World) (h : Ghost) (s : Stage) (operation : Oper
         }
 
     fine_commit : (due : ℕ → List Update) (n : ℕ) → IsFineHere config w noted (later reply due) (letter (Node n) (Here 0) (message.Commit w.coord.operation updates))
-    fine_commit due n = record { asking = tt; records = (n, refl); operation = (omega arith, λ _. refl); bars = tt; knowing = tt }
+    fine_commit due n = record { asking = tt; records = (n, refl); operation = (omega arith, λ _. refl); bars = tt; knowing = tt; listings = tt }
 
     fine_reply : (due : ℕ → List Update) → IsFineHere config w noted (later reply due) (reply_letter operation.call (Here 0) reply)
     fine_reply due =
         let here : length w.commits + 0 ≡ length w.commits = omega arith in
         let told : put h.phase l (Tells (Replies (length w.commits) reply)) l ≡ Tells (Replies (length w.commits + 0) reply) =
         put_same h.phase l (Tells (Replies (length w.commits) reply)) ∙ ap (λ k. Tells (Replies k reply)) (sym here) in
-        record { asking = tt; records = (l, refl, (refl, inr (numbered, inr told))); operation = tt; bars = tt; knowing = tt }
+        record { asking = tt; records = (l, refl, (refl, inr (numbered, inr told))); operation = tt; bars = tt; knowing = tt; listings = tt }
 
     -- the Commits go to the nodes, and then the answer to the client
     told_all : (due : ℕ → List Update) → InCoord config w noted (later reply due) → All (λ letter. Fits letter.message) (decided w.coord operation updates notes reply).sent → EndsCoord config w (decided w.coord operation updates notes reply)
@@ -157,10 +157,10 @@ module _ (config : Config) (w : World) (h : Ghost) (s : Stage) (operation : Oper
         (later reply due, coord_ends config w h (decided w.coord operation updates notes reply) (later reply due) fit shown (coord_sends_all config w noted (later reply due) (commits ++ answer ∷ []) fine step))
 
   -- the operation changes nothing
-  pub ends_unchanged : (reply : Reply) → is_place (h.call l).op ≡ false → reply ≡ answer (now before) (h.call l).cred (h.call l).op → makes (now before) (h.call l).cred (h.call l).op ≡ false
+  pub ends_unchanged : (reply : Reply) → is_place (h.call l).op ≡ false → reply ≡ answer (now before) (h.call l).cred (h.call l).op → makes (now before) (h.call l).cred (h.call l).op ≡ false → is_names reply ≡ false
       → All (λ letter. Fits letter.message) (decided w.coord operation [] [] reply).sent → EndsCoord config w (decided w.coord operation [] [] reply)
-  ends_unchanged reply tree answered unmade fit =
-      let ended = ended_good config dropped l operation.keys reply ready tree unmade answered dropped_there in
+  ends_unchanged reply tree answered unmade unlisted fit =
+      let ended = ended_good config dropped l operation.keys reply ready tree unmade answered unlisted dropped_there in
       told_all [] [] reply h.due (concluded [] [] reply h.due w.entries w.commits (sym (append-nil w.entries)) (sym (append-nil w.commits)) ended) fit
 
   -- or makes its commit

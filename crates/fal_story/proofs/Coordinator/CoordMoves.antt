@@ -7,7 +7,7 @@ use Rattle.fal_node.specs.State.{NodeState}
 use Rattle.fal_run.specs.declared.call.BatchCall.{BatchCall}
 use Rattle.fal_wait.specs.declared.waiting_call.WaitingCall.{WaitingCall}
 use Rattle.fal_story.proofs.Events.Besides.{holds_kept}
-use Rattle.fal_story.proofs.Events.HeldCalls.{heard_moves, put_moves}
+use Rattle.fal_story.proofs.Events.HeldCalls.{AsksNone, heard_moves, put_moves}
 use Rattle.fal_story.proofs.Events.Shows.{Held, Heard, Holds, PlannedAt, WaitsAt, WaitsThere, lane_of, planned_lane}
 use Rattle.fal_story.proofs.Lists.Each.{Each, each_both, each_weaker}
 use Rattle.fal_story.proofs.Lists.Grown.{from_put, put_other}
@@ -51,8 +51,8 @@ module _ (call : ℕ → CallRec) (phase : ℕ → Phase) (l : ℕ) (q : Phase) 
     planned_apart = held.planned_apart;
   }
 
-  pub moved_heard : (config : Config) (w : World) → ((a : ℕ) → Heard config call phase a (w.clients a)) → (a : ℕ) → Heard config call later a (w.clients a)
-  moved_heard config w heard = heard_moves config w 255 call phase later (put_moves 255 l phase q (for_there (phase l) there) busy) heard
+  pub moved_heard : AsksNone q → (config : Config) (w : World) → ((a : ℕ) → Heard config call phase a (w.clients a)) → (a : ℕ) → Heard config call later a (w.clients a)
+  moved_heard none config w heard = heard_moves config w 255 call phase later (put_moves 255 l phase q (for_there (phase l) there) busy none) heard
 
   -- a planned call rests on the keys on which it did
   pub moved_holds : (crossed rests : ℕ → List Key) → ((a : ℕ) → a ≢ l → crossed a ≡ rests a) → (n : ℕ) (x : NodeState) → Holds phase crossed n x → Holds later rests n x

@@ -35,7 +35,7 @@ coord_sends config w k h letter fine s =
 
 -- what is fine does not depend on the letters before it
 fine_more : (config : Config) (w : World) (k : Work) (h : Ghost) (more : List Letter) (letter : Letter) → IsFineHere config w k h letter → IsFineHere config w (record k { sent = more }) h letter
-fine_more config w k h more letter fine = record { asking = fine.asking; records = fine.records; operation = fine.operation; bars = fine.bars; knowing = fine.knowing }
+fine_more config w k h more letter fine = record { asking = fine.asking; records = fine.records; operation = fine.operation; bars = fine.bars; knowing = fine.knowing; listings = fine.listings }
 
 -- letters, each of which is fine
 pub coord_sends_all : (config : Config) (w : World) (k : Work) (h : Ghost) (letters : List Letter) → Each (IsFineHere config w k h) letters → InCoord config w k h

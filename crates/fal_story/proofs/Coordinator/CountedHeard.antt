@@ -65,7 +65,7 @@ module _ (config : Config) (w : World) (h : Ghost) (operation : Operation) (rows
   fills some fit =
       let answers : answer (now counted) (h.call l).cred (h.call l).op ≡ reply.Fail Enotempty =
       full_answers config counted l operation.keys (kept_of operation) rows suited.walks suited.fits suited.locked good dir updates (sum counts) refl (suited.judged rows ∙ judges) some in
-      ends_unchanged config w h last operation cluster shown (refl, refl, refl) refl is good (reply.Fail Enotempty) (suited_tree operation (h.call l) suited) (sym answers) (fails_unmade (now counted) (h.call l).cred (h.call l).op Enotempty answers) fit
+      ends_unchanged config w h last operation cluster shown (refl, refl, refl) refl is good (reply.Fail Enotempty) (suited_tree operation (h.call l) suited) (sym answers) (fails_unmade (now counted) (h.call l).cred (h.call l).op Enotempty answers) refl fit
 
   concludes : AllFit (judged_work w.coord operation rows (counted_of counts updates)).sent → EndsCoord config w (judged_work w.coord operation rows (counted_of counts updates))
   concludes fit =

@@ -108,7 +108,7 @@ module _ (config : Config) (w : World) (h : Ghost) (e p number : ℕ) (key : Key
         record {
           good = subst (Good config) same moved;
           held = λ n. moved_held h.call h.phase l (Waits 255 None) there busy unplanned n (w.nodes n).waiting.calls (calls_in (w.nodes n).batches) (shown.held n);
-          heard = moved_heard h.call h.phase l (Waits 255 None) there busy unplanned config w shown.heard;
+          heard = moved_heard h.call h.phase l (Waits 255 None) there busy unplanned tt config w shown.heard;
           queues = shown.beside.queues;
           holding = λ n. moved_holds h.call h.phase l (Waits 255 None) there busy unplanned h.crossed h.crossed (λ a _. refl) n (w.nodes n) (shown.beside.holding n);
           waiters = moved_waiters h.call h.phase l (Waits 255 None) there busy unplanned w.coord.waiting others hosts.waiters;

@@ -12,6 +12,7 @@ use Rattle.fal_base.specs.declared.row.Update.{Update}
 use Rattle.fal_base.specs.Answer.{answer}
 use Rattle.fal_base.specs.Change.{changes, is_fine, makes}
 use Rattle.fal_base.specs.Tree.{Tree}
+use Rattle.fal_base.specs.Transcript.{is_names}
 use Rattle.fal_coord.specs.declared.stage.Operation.{Operation}
 use Rattle.fal_coord.specs.declared.stage.Stage.{Stage}
 use Rattle.fal_coord.specs.declared.stage.Stage.TheVariants as stage
@@ -71,8 +72,8 @@ module _ (config : Config) (w : World) (h : Ghost) (operation : Operation) (rows
   says : (j : Judged) → verdict_on operation rows ≡ j → SaysOfTree (now locked) cred op j
   says j judges = subst (SaysOfTree (now locked) cred op) (suited.judged rows ∙ judges) (says_locked config locked l operation.keys (kept_of operation) rows suited.walks suited.fits suited.locked good refl)
 
-  unchanged : (reply : Reply) → reply ≡ answer (now locked) cred op → makes (now locked) cred op ≡ false → AllFit (decided w.coord operation [] [] reply).sent → EndsCoord config w (decided w.coord operation [] [] reply)
-  unchanged reply answered unmade fit = ends_unchanged config w h (stage.Lock operation [] rows) operation cluster shown (refl, refl, refl) refl is good reply (suited_tree operation (h.call l) suited) answered unmade fit
+  unchanged : (reply : Reply) → reply ≡ answer (now locked) cred op → makes (now locked) cred op ≡ false → is_names reply ≡ false → AllFit (decided w.coord operation [] [] reply).sent → EndsCoord config w (decided w.coord operation [] [] reply)
+  unchanged reply answered unmade unlisted fit = ends_unchanged config w h (stage.Lock operation [] rows) operation cluster shown (refl, refl, refl) refl is good reply (suited_tree operation (h.call l) suited) answered unmade unlisted fit
 
   changed : (updates : List Update) → verdict_on operation rows ≡ judged.Change updates → AllFit (judged_work w.coord operation rows (judged.Change updates)).sent → EndsCoord config w (judged_work w.coord operation rows (judged.Change updates))
   changed updates judges fit =
@@ -96,12 +97,12 @@ module _ (config : Config) (w : World) (h : Ghost) (operation : Operation) (rows
       subst (λ missing. Good config (record locked { op = record locked.op { work = Counts l operation.keys (kept_of operation) missing rows dir updates 0 } })) (ap numbers_below (sym nodes)) begins in
       let step = comes_to config w h shown coord there (record { waiters = hosts.waiters; apart = hosts.apart; current = (is, suits, some_below w.coord.table.nodes (omega arith), judges); numbered = numbered_few config w h shown }) in
       let fine = fine_nodes config w (begun coord) h (λ (n : ℕ). letter (Node n) (Here 0) (message.Count w.coord.operation dir)) w.coord.table.nodes
-      (λ n _. record { asking = tt; records = (n, refl); operation = (omega arith, λ _. refl); bars = tt; knowing = tt }) in
+      (λ n _. record { asking = tt; records = (n, refl); operation = (omega arith, λ _. refl); bars = tt; knowing = tt; listings = tt }) in
       (h, coord_ends config w h (counting w.coord operation rows dir updates) h fit shown (coord_sends_all config w (begun coord) h (to_nodes w.coord.table.nodes (message.Count w.coord.operation dir)) fine step))
 
   judges : (j : Judged) → verdict_on operation rows ≡ j → AllFit (judged_work w.coord operation rows j).sent → EndsCoord config w (judged_work w.coord operation rows j)
-  judges (judged.Fail errno) so fit = unchanged (reply.Fail errno) (sym (says (judged.Fail errno) so)) (fails_unmade (now locked) cred op errno (says (judged.Fail errno) so)) fit
-  judges judged.Same so fit = let same : IsSame (now locked) cred op = says judged.Same so in unchanged reply.Fine (sym same.answered) same.unmade fit
+  judges (judged.Fail errno) so fit = unchanged (reply.Fail errno) (sym (says (judged.Fail errno) so)) (fails_unmade (now locked) cred op errno (says (judged.Fail errno) so)) refl fit
+  judges judged.Same so fit = let same : IsSame (now locked) cred op = says judged.Same so in unchanged reply.Fine (sym same.answered) same.unmade refl fit
   judges (judged.Count dir updates) so fit = counted dir updates so fit
   judges (judged.Change updates) so fit = changed updates so fit
 

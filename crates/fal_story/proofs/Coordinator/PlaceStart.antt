@@ -101,11 +101,11 @@ module _ (config : Config) (w : World) (h : Ghost) (c : CallRec) (calls : List C
           commits = sym (append-nil w.commits) i;
           op = record (view_at config w at then).op { work = Blocks l (name_in c.op) (rule_in c.op) (numbers_below (sym nodes i)) [] };
         } in
-        goes_on config w coord begins c s coord.asked (stage.Block c (numbers_below coord.table.nodes) []) [] Runs h.crossed (λ z. cc) (λ n x z. cc) (λ a _. refl)
+        goes_on config w coord begins c s coord.asked (stage.Block c (numbers_below coord.table.nodes) []) [] Runs h.crossed (λ z. cc) (λ n x z. cc) tt (λ a _. refl)
         (s.is, placeable, some_below coord.table.nodes (omega arith)) (omega arith) (subst (Good config) same good)
 
     block_fine : (n : ℕ) → n < config.nodes → IsFineHere config w at then (letter (Node n) (Here 0) (message.Block coord.operation placing.name))
-    block_fine n below = record { asking = tt; records = (n, refl); operation = tt; bars = (n, refl, below, inr (refl, ap name_in op_is)); knowing = tt }
+    block_fine n below = record { asking = tt; records = (n, refl); operation = tt; bars = (n, refl, below, inr (refl, ap name_in op_is)); knowing = tt; listings = tt }
 
     sends_blocks : AllFit (blocking coord c placing.name).sent → EndsCoord config w (blocking coord c placing.name)
     unfolding blocking

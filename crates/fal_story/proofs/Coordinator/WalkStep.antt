@@ -98,7 +98,7 @@ module _ (config : Config) (w : World) (coord : CoordState) (h h0 : Ghost) (c : 
       } in (
         later,
         coord_ends config w h0 k later fit shown
-            (goes_on config w coord h c s (coord.asked + 1) (stage.Walk c coord.asked key) (ask_letter coord key ∷ []) q rests (λ z. cc) (λ n x z. cc)
+            (goes_on config w coord h c s (coord.asked + 1) (stage.Walk c coord.asked key) (ask_letter coord key ∷ []) q rests (λ z. cc) (λ n x z. cc) tt
             (λ a apart. sym (put_other h.crossed l _ a apart))
             (s.is, put_same h.phase l q, is_walked, busy) s.numbered (subst (Good config) same good)),
       )
@@ -135,11 +135,11 @@ module _ (config : Config) (w : World) (coord : CoordState) (h h0 : Ghost) (c : 
           commits = sym (append-nil w.commits) i;
           op = record (view_at config w at then).op { work = Locks l keys (kept_walks (walked_paths c.op) walks) (numbers_below (sym nodes i)) [] };
         } in
-        goes_on config w coord h c s coord.asked (stage.Lock operation (numbers_below coord.table.nodes) []) [] Runs h.crossed (λ z. cc) (λ n x z. cc) (λ a _. refl)
+        goes_on config w coord h c s coord.asked (stage.Lock operation (numbers_below coord.table.nodes) []) [] Runs h.crossed (λ z. cc) (λ n x z. cc) tt (λ a _. refl)
         (s.is, suits, some_below coord.table.nodes (omega arith)) s.numbered (subst (Good config) same good)
 
     lock_fine : (n : ℕ) → n < config.nodes → IsFineHere config w at then (letter (Node n) (Here 0) (message.Lock coord.operation keys))
-    lock_fine n below = record { asking = tt; records = (n, refl); operation = (n, refl, below, inr (refl, refl)); bars = tt; knowing = tt }
+    lock_fine n below = record { asking = tt; records = (n, refl); operation = (n, refl, below, inr (refl, refl)); bars = tt; knowing = tt; listings = tt }
 
     sends_locks : AllFit (locking coord c keys walks).sent → EndsCoord config w (locking coord c keys walks)
     unfolding locking

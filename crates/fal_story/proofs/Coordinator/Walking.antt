@@ -19,6 +19,7 @@ use Rattle.fal_story.proofs.Coordinator.AtStage.{seen}
 use Rattle.fal_story.proofs.Coordinator.CoordMoves.{IsThere, moved_heard, moved_held, moved_holds, moved_waiters}
 use Rattle.fal_story.proofs.Coordinator.CoordSends.{coord_sends}
 use Rattle.fal_story.proofs.Events.GotEvent.{AllFit}
+use Rattle.fal_story.proofs.Events.HeldCalls.{AsksNone}
 use Rattle.fal_story.proofs.Events.InCoord.{InCoord, EndsCoord, coord_ends, view_at, view_started}
 use Rattle.fal_story.proofs.Events.Shows.{Ghost, Shows, Held, Heard, Holds, IsCurrent, IsNumbered, WaitsThere, askings_of, calls_in, last_of, listed_of, locks_in, operating, shut_of}
 use Rattle.fal_story.proofs.Families.Lanes.{positive}
@@ -64,16 +65,16 @@ module _ (config : Config) (w : World) (coord : CoordState) (h : Ghost) (c : Cal
   held_there = subst (IsHeld 255) (sym s.waits) refl
 
   -- the call goes on, and the coordinator is at another stage
-  pub goes_on : (asked : ℕ) (at : Stage) (sent : List Letter) (q : Phase) (rests : ℕ → List Key) → q ≢ Idle → ((n : ℕ) (x : BatchCall) → q ≢ Plans n x) → ((a : ℕ) → a ≢ l → h.crossed a ≡ rests a)
+  pub goes_on : (asked : ℕ) (at : Stage) (sent : List Letter) (q : Phase) (rests : ℕ → List Key) → q ≢ Idle → ((n : ℕ) (x : BatchCall) → q ≢ Plans n x) → AsksNone q → ((a : ℕ) → a ≢ l → h.crossed a ≡ rests a)
       → IsCurrent config.nodes coord.table h.call (put h.phase l q) at → IsNumbered coord.table.version coord.operation at
       → Good config (view_at config w (record { coord = record coord { asked = asked; stage = at }; sent = sent; notes = [] }) (record h { phase = put h.phase l q; crossed = rests }))
       → InCoord config w (record { coord = record coord { asked = asked; stage = at }; sent = sent; notes = [] }) (record h { phase = put h.phase l q; crossed = rests })
-  goes_on asked at sent q rests busy unplanned same current numbered good =
+  goes_on asked at sent q rests busy unplanned none same current numbered good =
       let there : IsThere (h.phase l) = subst IsThere (sym s.waits) refl in
       record {
         good = good;
         held = λ n. moved_held h.call h.phase l q there busy unplanned n (w.nodes n).waiting.calls (calls_in (w.nodes n).batches) (s.held n);
-        heard = moved_heard h.call h.phase l q there busy unplanned config w s.heard;
+        heard = moved_heard h.call h.phase l q there busy unplanned none config w s.heard;
         beside = record {
           queues = s.queues;
           holding = λ n. moved_holds h.call h.phase l q there busy unplanned h.crossed rests same n (w.nodes n) (s.holding n);
@@ -108,12 +109,12 @@ module _ (config : Config) (w : World) (coord : CoordState) (h : Ghost) (c : Cal
       let q = Tells (Replies k (Fail errno)) in
       let later : Ghost = record h { phase = put h.phase l q } in
       let rested = begun (at_stage coord stage.Idle) in
-      let step : InCoord config w rested later = goes_on coord.asked stage.Idle [] q h.crossed (λ z. cc) (λ n x z. cc) (λ a _. refl) tt s.numbered
+      let step : InCoord config w rested later = goes_on coord.asked stage.Idle [] q h.crossed (λ z. cc) (λ n x z. cc) tt (λ a _. refl) tt s.numbered
       (subst (Good config) (view_started config (record w { coord = at_stage coord stage.Idle }) later) up) in
       let letter = reply_letter c point (Fail errno) in (
         later,
         coord_ends config w h0 (given_up coord c point errno) later fit shown
-            (coord_sends config w rested later letter (record { asking = tt; records = (l, refl, (refl, inr (numbered, inr (put_same h.phase l q)))); operation = tt; bars = tt; knowing = tt }) step),
+            (coord_sends config w rested later letter (record { asking = tt; records = (l, refl, (refl, inr (numbered, inr (put_same h.phase l q)))); operation = tt; bars = tt; knowing = tt; listings = tt }) step),
       )
 
   -- the call fails so, as the tree at the point says

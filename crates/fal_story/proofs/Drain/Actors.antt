@@ -24,7 +24,7 @@ use Rattle.fal_story.proofs.Lists.Grown.{slice_get_below}
 use Rattle.fal_story.proofs.Phase.{Idle, Waits}
 use Rattle.fal_story.proofs.Trees.Standing.{table_of}
 use Rattle.fal_story.proofs.View.{View}
-use Rattle.fal_story.specs.Clusters.{IsCluster, is_lane, is_served}
+use Rattle.fal_story.specs.Clusters.{IsCluster, is_lane}
 use Rattle.fal_story.specs.World.{World, envelopes_of}
 
 -- an actor of the cluster
@@ -52,21 +52,21 @@ node_for_there : (config : Config) (path : PathArg) → IsCluster config → IsA
 node_for_there config (GoodPath names) cluster = route_there config names cluster
 node_for_there config (Bad fault raw) cluster = let some = cluster.some_nodes in omega arith
 
--- a call that is served goes to a node that is there
-pub served_there : (config : Config) (call : Op) → IsCluster config → IsTrue (is_served call) → IsActor config (addressee (table_of config) call)
+-- a call goes to an actor that is there
+pub call_there : (config : Config) (call : Op) → IsCluster config → IsActor config (addressee (table_of config) call)
 unfolding addressee
-served_there config (op.Mkdir path mode) cluster served = node_for_there config path cluster
-served_there config (op.Create path mode) cluster served = node_for_there config path cluster
-served_there config (op.Stat path) cluster served = node_for_there config path cluster
-served_there config (op.Access path want) cluster served = node_for_there config path cluster
-served_there config (op.Truncate path size) cluster served = node_for_there config path cluster
-served_there config (op.Unlink path) cluster served = node_for_there config path cluster
-served_there config (op.Chmod path mode) cluster served = node_for_there config path cluster
-served_there config (op.Chown path uid gid) cluster served = node_for_there config path cluster
-served_there config (op.Rmdir path) cluster served = tt
-served_there config (op.Rename old new) cluster served = tt
-served_there config (op.Place name rule) cluster served = tt
-served_there config (op.List path) cluster served = absurd (cc)
+call_there config (op.Mkdir path mode) cluster = node_for_there config path cluster
+call_there config (op.Create path mode) cluster = node_for_there config path cluster
+call_there config (op.Stat path) cluster = node_for_there config path cluster
+call_there config (op.Access path want) cluster = node_for_there config path cluster
+call_there config (op.Truncate path size) cluster = node_for_there config path cluster
+call_there config (op.Unlink path) cluster = node_for_there config path cluster
+call_there config (op.Chmod path mode) cluster = node_for_there config path cluster
+call_there config (op.Chown path uid gid) cluster = node_for_there config path cluster
+call_there config (op.Rmdir path) cluster = tt
+call_there config (op.Rename old new) cluster = tt
+call_there config (op.Place name rule) cluster = tt
+call_there config (op.List path) cluster = node_for_there config path cluster
 
 -- ---- lanes
 
@@ -78,13 +78,16 @@ lane_of_call config (suc l) s is =
       | Some calls ↦ λ e y. let below = slice_get_below config.lanes l calls e in grind (arith, nat_tests)
     ] refl is
 
+-- a lane that has sent a call is there
+pub sent_lane : (config : Config) (v : View) (l : ℕ) → Good config v → 0 < v.seq l → IsTrue (is_lane config l)
+sent_lane config v l g some = lane_of_call config l (v.seq l) (subst (λ o. IsSome o) (sym (g.script.calls.named l some)) refl)
+
 -- a lane with a call under way is there
 pub lane_there : (config : Config) (v : View) (l : ℕ) → Good config v → v.phase l ≢ Idle → IsTrue (is_lane config l)
 lane_there config v l g busy =
-    let named = g.script.calls.named l in
     elim (v.seq l) as (λ s. v.seq l ≡ s → IsTrue (is_lane config l)) [
       | zero ↦ λ e. absurd (busy (g.lanes.under_way.started l e))
-      | suc s ↦ λ e. let some : 0 < v.seq l = omega arith in lane_of_call config l (v.seq l) (subst (λ o. IsSome o) (sym (named some)) refl)
+      | suc s ↦ λ e. sent_lane config v l g (omega arith)
     ] refl
 
 -- each waiting call is one of a lane that is there

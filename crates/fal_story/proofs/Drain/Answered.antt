@@ -7,17 +7,20 @@ use Rattle.fal_base.specs.declared.call.Config.{Config}
 use Rattle.fal_base.specs.declared.entry.Entry.TheVariants as entry
 use Rattle.fal_base.specs.declared.event.Event.{Event}
 use Rattle.fal_base.specs.Transcript.{sents}
+use Rattle.fal_client.specs.declared.current.Current.{Current}
 use Rattle.fal_client.specs.Step.{id_at}
 use Rattle.fal_coord.specs.declared.stage.Stage.{Stage}
 use Rattle.fal_coord.specs.declared.stage.Stage.TheVariants as stage
 use Rattle.fal_coord.specs.State.{CoordState, is_idle, is_quiet as is_coord_quiet}
 use Rattle.fal_node.specs.declared.batch.Batch.{Batch}
-use Rattle.fal_story.proofs.Drain.Follow.{IsUnder, Asked, Waiting, Planned, Hosted, Answered, Stale, calls_of, hosted, marks_in, passed_on, IsTold}
+use Rattle.fal_story.proofs.Drain.Follow.{IsUnder, Asked, Waiting, Planned, Hosted, Answered, Stale, Opened, calls_of, hosted, marks_in, passed_on, IsTold}
 use Rattle.fal_story.proofs.Drain.FollowRuns.{IsLive, legal_lives}
+use Rattle.fal_story.proofs.Drain.Moving.{items_in}
 use Rattle.fal_story.proofs.Drain.MovingCoord.{no_length, both_are, quiet_lists}
-use Rattle.fal_story.proofs.Drain.Quiet.{envelope_at, none_is_quiet}
+use Rattle.fal_story.proofs.Listing.Parts.{IsPartOnWay, Asks, Keeps, Tells, Renews, some_missing}
+use Rattle.fal_story.proofs.Drain.Quiet.{envelope_at, none_is_quiet, quiet_items}
 use Rattle.fal_story.proofs.Events.LegalRuns.{IsKept}
-use Rattle.fal_story.proofs.Events.Shows.{calls_in, posts_of}
+use Rattle.fal_story.proofs.Events.Shows.{IsListed, calls_in, posts_of}
 use Rattle.fal_story.proofs.Lists.Grown.{tells}
 use Rattle.fal_story.proofs.Lists.Members.{IsIn}
 use Rattle.fal_story.proofs.Trees.Once.{sents_past}
@@ -50,8 +53,27 @@ none_under config w came id q (Planned n x at is) = let none : IsIn x (calls_in 
 none_under config w came id q (Hosted c at is) = let none : IsIn c [] = subst (IsIn c) (none_hosted w.coord q.coord) at in absurd none
 none_under config w came id q (Answered k p reply at fresh) = let x = envelope_at w.envelopes k _ at in let there = q.all_came k x.0 x.1 in absurd (cc)
 none_under config w came id q (Stale k p old new changes at fresh) = let x = envelope_at w.envelopes k _ at in let there = q.all_came k x.0 x.1 in absurd (cc)
+none_under config w came id q (Opened k p dir at fresh) = let x = envelope_at w.envelopes k _ at in let there = q.all_came k x.0 x.1 in absurd (cc)
+
+-- nor is a part on the way
+none_asked : (config : Config) (w : World) (came : ℕ → Bool) (id : CallId) (n : ℕ) → IsQuiet config w came → IsPartOnWay (posts_of w.envelopes) came (items_in w) id n → ⊥
+none_asked config w came id n q (Asks k p version dir at fresh) = let x = envelope_at w.envelopes k _ at in let there = q.all_came k x.0 x.1 in absurd (cc)
+none_asked config w came id n q (Keeps item version dir at is) = let none : IsIn item [] = subst (IsIn item) (quiet_items (w.nodes n) (q.nodes n)) at in absurd none
+none_asked config w came id n q (Tells k p names at fresh) = let x = envelope_at w.envelopes k _ at in let there = q.all_came k x.0 x.1 in absurd (cc)
+none_asked config w came id n q (Renews k p old new changes at fresh) = let x = envelope_at w.envelopes k _ at in let there = q.all_came k x.0 x.1 in absurd (cc)
 
 -- ---- calls that were sent
+
+-- so no call is under way
+none_current : (config : Config) (w : World) (came : ℕ → Bool) (lane : ℕ) (current : Current) → IsKept config w → IsLive config w came → IsQuiet config w came → (w.clients lane).current ≡ Some current → ⊥
+none_current config w came lane current k live q busy =
+    elim current.listing as (λ o. current.listing ≡ o → IsListed config.nodes (k.ghost.phase lane) o → ⊥) [
+      | None ↦ λ unlisted listed. let b = live.followed.busy lane current busy unlisted in none_under config w came (passed_on (id_at lane (w.clients lane).seq current.attempt) b.hop) q b.under
+      | Some listing ↦ λ is listed.
+          let x = some_missing listing.parts listed.2 in
+          let there : x.0 < config.nodes = subst (λ i. x.0 < i) listed.1 x.1.0 in
+          none_asked config w came (id_at lane (w.clients lane).seq current.attempt) x.0 q (live.asked lane current listing x.0 busy is there x.1.1)
+    ] refl ((k.shows.heard lane).some current busy).3
 
 sent_below : (config : Config) (w : World) (j lane seq : ℕ) → IsKept config w → slice_get w.entries j ≡ Some (entry.Sent lane seq) → (0 < seq) × (seq ≤ (w.clients lane).seq)
 sent_below config w j lane seq k at =
@@ -69,7 +91,7 @@ answered_at config w came k live q j lane seq at =
     let told : IsTold w.entries lane seq =
     elim (w.clients lane).current as (λ o. (w.clients lane).current ≡ o → IsTold w.entries lane seq) [
       | None ↦ λ none. ⊎_elim (λ t. live.followed.over lane seq below.0 (inr (t.1, none))) (λ t. live.followed.over lane seq below.0 (inl (less seq c.seq t.0 high))) (tells seq c.seq)
-      | Some current ↦ λ busy. let b = live.followed.busy lane current busy in absurd (none_under config w came (passed_on (id_at lane c.seq current.attempt) b.hop) q b.under)
+      | Some current ↦ λ busy. absurd (none_current config w came lane current k live q busy)
     ] refl in
     told
   where

@@ -76,6 +76,15 @@ module _ (config : Config) (w : World) (h : Ghost) (s : Shows config w h) where
   pub none_blocked : (t : Stage) (n : ℕ) → w.coord.stage ≡ t → IsKeyed t → n < config.nodes → (w.nodes n).blocked ≡ None
   none_blocked t n at keyed there = free_at t n keyed (bar_at t n at there)
 
+  -- where nothing is blocked at a node, it has the recorded table
+  pub recorded_at : (n : ℕ) → n < config.nodes → (w.nodes n).blocked ≡ None → (w.nodes n).table ≡ w.coord.table
+  recorded_at n there free = by_stage w.coord.stage (s.good.bars.stands n there)
+    where
+      by_stage : (t : Stage) → BarAt t n → (w.nodes n).table ≡ w.coord.table
+      by_stage (stage.Block call missing rows) bar = bar.0
+      by_stage (stage.Install call missing) bar = ⊎_elim (λ x. absurd (some_of (w.nodes n).blocked w.coord.operation (name_in call.op) x.2 free)) (λ x. x.0) bar
+      by_stage other bar = bar.0
+
   -- each node but those that are still to be heard has blocked the name
   pub block_some : (call : CallRec) (missing : List ℕ) (rows : List NamedRow) (n : ℕ) → w.coord.stage ≡ stage.Block call missing rows → n < config.nodes → (is_missing n missing ≡ true → ⊥) → (w.nodes n).blocked ≢ None
   block_some call missing rows n at there heard =

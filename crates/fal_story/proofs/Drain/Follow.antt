@@ -58,6 +58,7 @@ pub data IsUnder (posts : List Post) (came : ℕ → Bool) (taken : ℕ → Mark
   Hosted : (c : CallRec) → IsIn c (hosted coord) → c.id ≡ id → IsUnder posts came taken nodes coord id
   Answered : (k p : ℕ) (reply : Reply) → IsPosted posts k (Client id.client) p (message.Reply id reply) → came k ≡ false → IsUnder posts came taken nodes coord id
   Stale : (k p old new : ℕ) (changes : List RuleChange) → IsPosted posts k (Client id.client) p (message.Stale id old new changes) → came k ≡ false → IsUnder posts came taken nodes coord id
+  Opened : (k p dir : ℕ) → IsPosted posts k (Client id.client) p (message.Opened id dir) → came k ≡ false → IsUnder posts came taken nodes coord id
 
 -- the transcript answers the call
 abbrev pub IsTold : List Entry → ℕ → ℕ → Type 0
@@ -101,8 +102,9 @@ pub record AreNumbered (batches : List Batch) (next : ℕ) : Type 0 where
 abbrev pub IsNumbered : NodeState → Type 0
 IsNumbered x = AreNumbered x.batches x.batches_numbered
 
+-- each call under way of which no parts are asked is found, and each other one that was sent is answered
 pub record IsFollowed (w : World) (came : ℕ → Bool) : Type 0 where
-  pub busy : (l : ℕ) (current : Current) → (w.clients l).current ≡ Some current → IsBusy (posts_of w.envelopes) came (marks_in w) w.nodes w.coord (id_at l (w.clients l).seq current.attempt)
+  pub busy : (l : ℕ) (current : Current) → (w.clients l).current ≡ Some current → current.listing ≡ None → IsBusy (posts_of w.envelopes) came (marks_in w) w.nodes w.coord (id_at l (w.clients l).seq current.attempt)
   pub over : (l s : ℕ) → 0 < s → IsOver (w.clients l) s → IsTold w.entries l s
   pub marks : (n l : ℕ) (m : Mark) → last_mark (marks_in w n) l ≡ Some m → m.seq ≤ (w.clients l).seq
   pub batches : (n : ℕ) → IsNumbered (w.nodes n)
@@ -114,13 +116,15 @@ told_more entries more l s t = (t.0, (t.1.0, (t.1.1.0, slice_get_front entries m
 pub under_more : (posts more : List Post) (came later : ℕ → Bool) (taken : ℕ → Marks) (nodes : ℕ → NodeState) (coord : CoordState) (id : CallId) → ((k n p : ℕ) (call : CallRec) → IsPosted posts k (Node n) p (message.Call call) → came k ≡ false → later k ≡ false)
     → ((k p : ℕ) (reply : Reply) → IsPosted posts k (Client id.client) p (message.Reply id reply) → came k ≡ false → later k ≡ false)
     → ((k p old new : ℕ) (changes : List RuleChange) → IsPosted posts k (Client id.client) p (message.Stale id old new changes) → came k ≡ false → later k ≡ false)
+    → ((k p dir : ℕ) → IsPosted posts k (Client id.client) p (message.Opened id dir) → came k ≡ false → later k ≡ false)
     → IsUnder posts came taken nodes coord id → IsUnder (posts ++ more) later taken nodes coord id
-under_more posts more came later taken nodes coord id calls replies stales (Asked k p n call at fresh is newer suited) = Asked k p n call (slice_get_front posts more k _ at) (calls k n p call at fresh) is newer suited
-under_more posts more came later taken nodes coord id calls replies stales (Waiting n x at is) = Waiting n x at is
-under_more posts more came later taken nodes coord id calls replies stales (Planned n x at is) = Planned n x at is
-under_more posts more came later taken nodes coord id calls replies stales (Hosted c at is) = Hosted c at is
-under_more posts more came later taken nodes coord id calls replies stales (Answered k p reply at fresh) = Answered k p reply (slice_get_front posts more k _ at) (replies k p reply at fresh)
-under_more posts more came later taken nodes coord id calls replies stales (Stale k p old new changes at fresh) = Stale k p old new changes (slice_get_front posts more k _ at) (stales k p old new changes at fresh)
+under_more posts more came later taken nodes coord id calls replies stales opens (Asked k p n call at fresh is newer suited) = Asked k p n call (slice_get_front posts more k _ at) (calls k n p call at fresh) is newer suited
+under_more posts more came later taken nodes coord id calls replies stales opens (Waiting n x at is) = Waiting n x at is
+under_more posts more came later taken nodes coord id calls replies stales opens (Planned n x at is) = Planned n x at is
+under_more posts more came later taken nodes coord id calls replies stales opens (Hosted c at is) = Hosted c at is
+under_more posts more came later taken nodes coord id calls replies stales opens (Answered k p reply at fresh) = Answered k p reply (slice_get_front posts more k _ at) (replies k p reply at fresh)
+under_more posts more came later taken nodes coord id calls replies stales opens (Stale k p old new changes at fresh) = Stale k p old new changes (slice_get_front posts more k _ at) (stales k p old new changes at fresh)
+under_more posts more came later taken nodes coord id calls replies stales opens (Opened k p dir at fresh) = Opened k p dir (slice_get_front posts more k _ at) (opens k p dir at fresh)
 
 -- a node's event: the calls elsewhere stay where they are
 pub under_node : (posts more : List Post) (came later : ℕ → Bool) (taken : ℕ → Marks) (nodes : ℕ → NodeState) (coord : CoordState) (n : ℕ) (x : NodeState) (id : CallId) (R : Type 0) → taken n ≡ (nodes n).waiting.last
@@ -157,6 +161,8 @@ under_node posts more came later taken nodes coord n x id R own still others ask
 under_node posts more came later taken nodes coord n x id R own still others asked waiting planned (Stale k p old new changes at fresh) =
     still (Stale k p old new changes (slice_get_front posts more k _ at)
     (others k (post (Client id.client) p (message.Stale id old new changes)) at (λ e. let wrong : Client id.client ≡ Node n = e in absurd (cc)) fresh))
+under_node posts more came later taken nodes coord n x id R own still others asked waiting planned (Opened k p dir at fresh) =
+    still (Opened k p dir (slice_get_front posts more k _ at) (others k (post (Client id.client) p (message.Opened id dir)) at (λ e. let wrong : Client id.client ≡ Node n = e in absurd (cc)) fresh))
 
 -- the call is now at this node
 pub waiting_now : (posts : List Post) (came : ℕ → Bool) (taken : ℕ → Marks) (nodes : ℕ → NodeState) (coord : CoordState) (n : ℕ) (x : NodeState) (id : CallId) (y : WaitingCall) → IsIn y x.waiting.calls → y.call.id ≡ id

@@ -176,6 +176,9 @@ message_follows config w came n e x h (message.FetchAsk asker number key) there 
       | true ↦ plain_follows config w came n e x (begun (with_item (w.nodes n) (message.FetchAsk asker number key))) other m f c no_call (λ i y lt. absurd (omega arith)) refl refl refl
       | false ↦ plain_follows config w came n e x (begun (w.nodes n)) other m f c no_call (λ i y lt. absurd (omega arith)) refl refl refl
     ]
+message_follows config w came n e x h (message.ListAsk id version dir) there other s m f c is fit =
+    plain_follows config w came n e x (begun (with_item (w.nodes n) (message.ListAsk id version dir))) other m f c
+    (λ call z. let y : Some (message.ListAsk id version dir) ≡ Some (message.Call call) = sym (ap result_ok is) ∙ z in absurd (cc)) (λ i y lt. absurd (omega arith)) refl refl refl
 message_follows config w came n e x h (message.FetchGot number key what) there other s m f c is fit =
     settle_follows config w came n e key what x (fetch_of (w.nodes n).waiting number) number h other s m f c
     (λ call z. let y : Some (message.FetchGot number key what) ≡ Some (message.Call call) = sym (ap result_ok is) ∙ z in absurd (cc)) refl fit

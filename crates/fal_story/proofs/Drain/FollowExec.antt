@@ -6,7 +6,7 @@ use Rattle.std.proofs.lemmas.Option.{same_Some}
 use Rattle.fal_base.specs.declared.call.CallId.{CallId}
 use Rattle.fal_base.specs.declared.call.CallRec.{CallRec}
 use Rattle.fal_base.specs.declared.call.Config.{Config}
-use Rattle.fal_base.specs.declared.event.Actor.TheVariants.{Coord}
+use Rattle.fal_base.specs.declared.event.Actor.TheVariants.{Client, Coord}
 use Rattle.fal_base.specs.declared.event.Point.{Point}
 use Rattle.fal_base.specs.declared.event.Point.TheVariants.{Here}
 use Rattle.fal_base.specs.declared.reply.Reply.{Reply}
@@ -22,12 +22,13 @@ use Rattle.fal_node.specs.Exec.{executed, exec_all, exec_one, exec_as, with_exec
 use Rattle.fal_run.specs.Calls.{answer_letter, call_outcome}
 use Rattle.fal_node.specs.Letters.{Work, begun}
 use Rattle.fal_run.specs.Letters.{commits_in, pass_letter, passed_on as raised}
-use Rattle.fal_wire.specs.Letters.{reply_letter}
+use Rattle.fal_wire.specs.declared.message.Message.TheVariants as message
+use Rattle.fal_wire.specs.Letters.{letter, reply_letter}
 use Rattle.fal_node.specs.State.{NodeState, batch_of}
 use Rattle.fal_base.specs.Marks.{Marks, mark_of, last_mark, is_newer}
 use Rattle.fal_wait.specs.Waiting.{WaitList}
 use Rattle.fal_wire.specs.Messages.{Fits}
-use Rattle.fal_story.proofs.Drain.Follow.{IsUpTo, IsNewest, marks_in, passed_on, IsUnder, Asked, Answered, IsFollowed, AreNumbered, under_node, waiting_now, planned_now, asked_now}
+use Rattle.fal_story.proofs.Drain.Follow.{IsUpTo, IsNewest, marks_in, passed_on, IsUnder, Asked, Answered, Opened, IsFollowed, AreNumbered, under_node, waiting_now, planned_now, asked_now}
 use Rattle.fal_story.proofs.Drain.FollowNode.{IsUnderAfter, IsFoundAfter, found_follows, marks_at}
 use Rattle.fal_story.proofs.Drain.Moving.{IsMoving, posts_after}
 use Rattle.fal_story.proofs.Drain.Hearing.{After}
@@ -46,23 +47,27 @@ use Rattle.fal_story.specs.World.{World, put}
 abbrev pub IsReplied : List Letter → CallRec → Type 0
 IsReplied sent call = (point : Point) × ((reply : Reply) × IsIn (reply_letter call point reply) sent)
 
+-- the directory that it lists is
+abbrev pub IsOpened : List Letter → CallRec → Type 0
+IsOpened sent call = (point : Point) × ((dir : ℕ) × IsIn (letter (Client call.id.client) point (message.Opened call.id dir)) sent)
+
 -- the call is among them, on its way to the coordinator, which carries it out
 abbrev pub IsHanded : List Letter → CallRec → Type 0
 IsHanded sent call = (point : Point) × (IsIn (pass_letter call point Coord) sent × IsTrue (is_operation call.op))
 
 abbrev pub IsDealt : List Letter → CallRec → Type 0
-IsDealt sent call = IsReplied sent call ⊎ IsHanded sent call
+IsDealt sent call = IsReplied sent call ⊎ (IsOpened sent call ⊎ IsHanded sent call)
 
 answer_told : (call : CallRec) (commits : ℕ) (o : ExecOut) (sent : List Letter) → IsBack call.op o → IsIn (answer_letter call commits o) sent → IsDealt sent call
 answer_told call commits (out.Finish reply change) sent h at = inl (Here commits, (reply, at))
-answer_told call commits (out.Opened ino) sent h at = absurd h
-answer_told call commits out.PassOn sent h at = inr (Here commits, (at, h))
+answer_told call commits (out.Opened ino) sent h at = inr (inl (Here commits, (ino, at)))
+answer_told call commits out.PassOn sent h at = inr (inr (Here commits, (at, h)))
 
 one_sent : (config : Config) (k : Work) (x : BatchCall) → IsGiven config x → IsDealt (exec_one k x).sent x.call
 unfolding exec_one exec_as
 one_sent config k x given =
     let o = call_outcome k.node.number k.node.rows k.node.drawn x in
-    answer_told x.call (commits_in k.notes) o (exec_one k x).sent (call_back k.node.number k.node.rows k.node.drawn x given.served given.fits given.rows) (in_last k.sent (answer_letter x.call (commits_in k.notes) o))
+    answer_told x.call (commits_in k.notes) o (exec_one k x).sent (call_back k.node.number k.node.rows k.node.drawn x given.fits given.rows) (in_last k.sent (answer_letter x.call (commits_in k.notes) o))
 
 one_more : (k : Work) (x : BatchCall) (l : Letter) → IsIn l k.sent → IsIn l (exec_one k x).sent
 unfolding exec_one exec_as
@@ -76,10 +81,13 @@ dealt_more : (k : Work) (xs : List BatchCall) (call : CallRec) → IsDealt k.sen
 dealt_more k xs call dealt =
     ⊎_elim
     (λ told. inl (told.0, (told.1.0, all_more k xs _ told.1.1)))
-    (λ handed. inr (handed.0, (all_more k xs _ handed.1.0, handed.1.1)))
+    (λ z. ⊎_elim
+    (λ opened. inr (inl (opened.0, (opened.1.0, all_more k xs _ opened.1.1))))
+    (λ handed. inr (inr (handed.0, (all_more k xs _ handed.1.0, handed.1.1))))
+    z)
     dealt
 
--- each call of the batch is answered, or handed on
+-- each call of the batch is answered, or opened, or handed on
 all_sent : (config : Config) (k : Work) (xs : List BatchCall) → Each (IsGiven config) xs → Each (λ (x : BatchCall). IsDealt (exec_all k xs).sent x.call) xs
 all_sent config k [] given = tt
 all_sent config k (x ∷ xs) given = (dealt_more (exec_one k x) xs x.call (one_sent config k x given.0), all_sent config (exec_one k x) xs given.1)
@@ -130,6 +138,13 @@ replied_under w came k taken nodes coord id call past told same =
     let fresh = letter_fresh w.envelopes came (length w.commits) k.sent (reply_letter call told.0 told.1.0) past told.1.1 in
     subst (λ i. IsUnder (posts_after w k) came taken nodes coord i) same (Answered fresh.0 fresh.1.0 told.1.0 fresh.1.1.0 fresh.1.1.1)
 
+-- so is what tells of an opened directory
+opened_under : (w : World) (came : ℕ → Bool) (k : Work) (taken : ℕ → Marks) (nodes : ℕ → NodeState) (coord : CoordState) (id : CallId) (call : CallRec) → ((i : ℕ) → length w.envelopes ≤ i → came i ≡ false) → IsOpened k.sent call
+    → call.id ≡ id → IsUnder (posts_after w k) came taken nodes coord id
+opened_under w came k taken nodes coord id call past told same =
+    let fresh = letter_fresh w.envelopes came (length w.commits) k.sent (letter (Client call.id.client) told.0 (message.Opened call.id told.1.0)) past told.1.1 in
+    subst (λ i. IsUnder (posts_after w k) came taken nodes coord i) same (Opened fresh.0 fresh.1.0 told.1.0 fresh.1.1.0 fresh.1.1.1)
+
 -- a call stays up to its mark where its hop is raised
 pub up_later : (m : Mark) (id : CallId) → IsUpTo m id → IsUpTo m (passed_on id (id.hop + 1))
 up_later m id up = not_newer_later m (mark_of (passed_on id (id.hop + 1))) (Some (mark_of id)) (newer_hop (mark_of id)) up
@@ -173,7 +188,10 @@ executed_follows config w came n number batch k other m f fit at waits waiting b
     ⊎_elim
     (λ mine. ⊎_elim
     (λ told. here id newest (replied_under w came k taken (put w.nodes n k.node) w.coord id y.call m.past told same))
+    (λ z. ⊎_elim
+    (λ opened. here id newest (opened_under w came k taken (put w.nodes n k.node) w.coord id y.call m.past opened same))
     (λ handed. raised_here id newest (handed_under config w came n k other m id y.call handed same newest))
+    z)
     (each_in (λ (x : BatchCall). IsDealt k.sent x.call) batch.calls y dealt mine))
     (λ left. here id newest (planned_now (posts ++ more) came taken w.nodes w.coord n k.node id y (subst (λ bs. IsIn y (calls_in bs)) (sym batches) left) same))
     (marked_calls number node.batches batch y (f.batches n).apart at waits there))

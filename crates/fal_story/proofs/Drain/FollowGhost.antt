@@ -8,7 +8,7 @@ use Rattle.fal_base.specs.Marks.{mark_of, last_mark, is_newer}
 use Rattle.fal_coord.specs.declared.stage.Stage.{Stage}
 use Rattle.fal_coord.specs.declared.stage.Stage.TheVariants as stage
 use Rattle.fal_wire.specs.declared.message.Message.TheVariants as message
-use Rattle.fal_story.proofs.Drain.Follow.{IsUnder, Asked, Waiting, Planned, Hosted, Answered, Stale, IsLast, calls_of, hosted, marks_in}
+use Rattle.fal_story.proofs.Drain.Follow.{IsUnder, Asked, Waiting, Planned, Hosted, Answered, Stale, Opened, IsLast, calls_of, hosted, marks_in}
 use Rattle.fal_story.proofs.Events.Shows.{Ghost, Shows, IsCurrent, WaitsAt, WaitsThere, PlannedAt, calls_in, posts_of}
 use Rattle.fal_story.proofs.Lists.Members.{IsIn, each_in}
 use Rattle.fal_story.proofs.Phase as place
@@ -61,5 +61,23 @@ live_is config w came n h id s (Stale k p old new changes at fresh) last asked =
     let attempt : id.attempt ≡ (h.call id.client).id.attempt = sym last.1.1.1 ∙ ((s.heard id.client).some last.1.0 last.1.1.0).2 in
     absurd (⊎_elim
     (λ older. ⊎_elim (λ low. omega arith) (λ less. let below = less.1 in omega arith) older)
-    (λ live. let wrong : place.Asked n ≡ place.Told old new = sym asked ∙ live.2 in cc)
+    (λ y. ⊎_elim
+    (λ live. let wrong : place.Asked n ≡ place.Told old new = sym asked ∙ live.1 in cc)
+    (λ listed. ⊎_elim
+    (λ idle. let wrong : place.Asked n ≡ place.Idle = sym asked ∙ idle in cc)
+    (λ asks. let wrong : place.Asked n ≡ place.Tells (place.Lists asks.0 listed.0) = sym asked ∙ asks.1 in cc)
+    listed.1.1)
+    y)
     (s.good.knowing.stale k p id.client id old new changes at).3)
+live_is config w came n h id s (Opened k p dir at fresh) last asked =
+    let now = last.0 in
+    absurd (⊎_elim
+    (λ low. omega arith)
+    (λ z. ⊎_elim
+    (λ idle. let wrong : place.Asked n ≡ place.Idle = sym asked ∙ idle in cc)
+    (λ told. ⊎_elim
+    (λ opens. let wrong : place.Asked n ≡ place.Tells (place.Opens p dir) = sym asked ∙ opens in cc)
+    (λ lists. let wrong : place.Asked n ≡ place.Tells (place.Lists p dir) = sym asked ∙ lists in cc)
+    told)
+    z.1)
+    (s.good.records.responses k id.client p (message.Opened id dir) at).1)

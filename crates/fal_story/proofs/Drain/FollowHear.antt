@@ -43,7 +43,7 @@ use Rattle.fal_wire.specs.declared.message.Message.{Message}
 use Rattle.fal_wire.specs.declared.message.Message.TheVariants as message
 use Rattle.fal_wire.specs.Letters.{reply_letter}
 use Rattle.fal_wire.specs.Messages.{Fits, reading}
-use Rattle.fal_story.proofs.Drain.Follow.{IsUnder, Asked, Waiting, Planned, Hosted, Answered, Stale, IsFollowed, IsNewest, IsUpTo, IsSuited, calls_of, hosted, marks_in, passed_on, told_more}
+use Rattle.fal_story.proofs.Drain.Follow.{IsUnder, Asked, Waiting, Planned, Hosted, Answered, Stale, Opened, IsFollowed, IsNewest, IsUpTo, IsSuited, calls_of, hosted, marks_in, passed_on, told_more}
 use Rattle.fal_story.proofs.Drain.FollowCall.{same_posted, taken_marks}
 use Rattle.fal_story.proofs.Drain.FollowCoord.{StaysHosted, given_stays, begun_stays, message_stays}
 use Rattle.fal_story.proofs.Drain.FollowGhost.{asked_by}
@@ -78,8 +78,8 @@ coord_follows config w came later k fit f still marks =
     let posts : posts_of (coord_after config w k).envelopes ≡ posts_at w k = posts_sent Coord w.events (length w.commits) w.envelopes k.sent fit in
     let taken = marks_then w k in
     record {
-      busy = λ l current is.
-          let b = f.busy l current is in
+      busy = λ l current is unlisted.
+          let b = f.busy l current is unlisted in
           let id = passed_on (id_at l (w.clients l).seq current.attempt) b.hop in
           record {
             hop = b.hop;
@@ -123,6 +123,9 @@ under_coord w came later k id past others asked stays (Answered i p answer at fr
 under_coord w came later k id past others asked stays (Stale i p old new changes at fresh) =
     Stale i p old new changes (slice_get_front (posts_of w.envelopes) (letter_posts (length w.commits) k.sent) i _ at)
     (others i (post (Client id.client) p (message.Stale id old new changes)) at (λ e. let wrong : Client id.client ≡ Node 255 = e in absurd (cc)) fresh)
+under_coord w came later k id past others asked stays (Opened i p dir at fresh) =
+    Opened i p dir (slice_get_front (posts_of w.envelopes) (letter_posts (length w.commits) k.sent) i _ at)
+    (others i (post (Client id.client) p (message.Opened id dir)) at (λ e. let wrong : Client id.client ≡ Node 255 = e in absurd (cc)) fresh)
 
 -- a call that is asked for is so still
 asked_still : (w : World) (later : ℕ → Bool) (k : Work) (i p : ℕ) (id : CallId) (call : CallRec) → IsPosted (posts_of w.envelopes) i (Node 255) p (message.Call call) → later i ≡ false → call.id ≡ id

@@ -69,8 +69,8 @@ found_follows config w came later n k other fit f found marks numbered =
     let posts : posts_of (After config w n k).envelopes ≡ posts_after w k = posts_sent (Node n) w.events (length w.commits) w.envelopes k.sent fit in
     let taken : put (marks_in w) n k.node.waiting.last ≡ taken_of (put w.nodes n k.node) w.coord = seat_put (λ x. x.waiting.last) w.nodes w.coord.last n k.node other in
     record {
-      busy = λ l current is.
-          let b = f.busy l current is in
+      busy = λ l current is unlisted.
+          let b = f.busy l current is unlisted in
           let x = found (passed_on (id_at l (w.clients l).seq current.attempt) b.hop) (refl, (current, (is, refl))) b.under b.newest in
           let id = passed_on (id_at l (w.clients l).seq current.attempt) x.hop in
           record {

@@ -30,6 +30,8 @@ use Rattle.fal_story.proofs.Drain.FollowHear.{hear_follows, start_follows}
 use Rattle.fal_story.proofs.Drain.FollowNode.{serve_follows, release_follows}
 use Rattle.fal_story.proofs.Drain.Moving.{IsMoving}
 use Rattle.fal_story.proofs.Drain.MovingDeliver.{no_seat}
+use Rattle.fal_story.proofs.Listing.PartsRuns.{step_asks}
+use Rattle.fal_story.proofs.Listing.Parts.{AreAsked}
 use Rattle.fal_story.proofs.Drain.MovingRuns.{after_coord, after_client, after_node, step_moves, opening_moves, legal_holds}
 use Rattle.fal_story.proofs.Drain.MovingServe.{After}
 use Rattle.fal_story.proofs.Events.Enabled.{delivers, gathers, execs, releases, serves}
@@ -75,7 +77,7 @@ module _ (config : Config) (w : World) (came : ℕ → Bool) (cluster : IsCluste
       (λ work e. hear_follows config w came number x k.ghost work k.shows m f at e (coord_in_range config w k.ghost (coord_event.Hear x) work cluster few k.shows k.ranged (number, at) e).0.records)
       is
 
-  pub step_follows : (u : World) (e : Event) → step config w e ≡ Some u → IsFollowed u (came_with e came)
+  step_follows : (u : World) (e : Event) → step config w e ≡ Some u → IsFollowed u (came_with e came)
   unfolding deed
   step_follows u (event.Send l) at =
       after_client config w u l (client_step (w.clients l) client.Send) (λ v. IsFollowed v came)
@@ -107,21 +109,29 @@ opening_marks config n l m is = put_all (λ i (ms : Marks). last_mark ms l ≡ S
 opening_follows : (config : Config) → IsFollowed (opening_world config) (λ number. false)
 unfolding opening_node opening_coord
 opening_follows config = record {
-  busy = λ l current is. absurd (cc);
+  busy = λ l current is unlisted. absurd (cc);
   over = λ l s some over. absurd (⊎_elim (λ low. omega arith) (λ z. let none = z.0 in omega arith) over);
   marks = λ n l m is. opening_marks config n l m is;
   batches = λ n. record { apart = tt; below = tt };
 }
 
+-- each call under way is on its way, and so is each part that is asked for one
 pub record IsLive (config : Config) (w : World) (came : ℕ → Bool) : Type 0 where
   pub moving : IsMoving config w came
   pub followed : IsFollowed w came
+  pub asked : AreAsked config w came
 
 pub opening_live : (config : Config) → IsCluster config → IsLive config (opening_world config) (λ number. false)
-opening_live config cluster = record { moving = opening_moves config cluster; followed = opening_follows config }
+opening_live config cluster = record { moving = opening_moves config cluster; followed = opening_follows config; asked = λ l current listing n busy has there missing. absurd (cc) }
+
+-- each event keeps it
+pub step_lives : (config : Config) (w u : World) (came : ℕ → Bool) (e : Event) → IsCluster config → w.events < 2 ^ 63 → IsKept config w → IsLive config w came → step config w e ≡ Some u → IsLive config u (came_with e came)
+step_lives config w u came e cluster few k live is = record {
+  moving = step_moves config w came cluster few k live.moving u e is;
+  followed = step_follows config w came cluster few k live.moving live.followed u e is;
+  asked = step_asks config w came cluster few k live.moving live.asked u e is;
+}
 
 pub legal_lives : (config : Config) (events : List Event) (w : World) → IsLegal config events → run config events ≡ Some w → IsKept config w × IsLive config w (came events)
 legal_lives config events w legal at =
-    legal_holds config (IsLive config)
-    (λ v u c e few k live is. record { moving = step_moves config v c legal.cluster few k live.moving u e is; followed = step_follows config v c legal.cluster few k live.moving live.followed u e is })
-    (opening_live config legal.cluster) events w legal at
+    legal_holds config (IsLive config) (λ v u c e few k live is. step_lives config v u c e legal.cluster few k live is) (opening_live config legal.cluster) events w legal at

@@ -40,14 +40,14 @@ abbrev pub IsPast : ℕ → (ℕ → Bool) → Type 0
 IsPast count came = (k : ℕ) → count ≤ k → came k ≡ false
 
 -- what is asked of an item, by the kind of its message: that it can be served where no batch is left, no key is shut and no name is blocked.
--- A node keeps nothing but questions, Locks and Blocks as items
+-- A node keeps nothing but questions, Locks and Blocks as items, and what asks for parts of listings
 abbrev pub IsServable : Message → Type 0
 IsServable (message.FetchAsk asker number key) = Unit {0}
 IsServable (message.Call call) = ⊥
 IsServable (message.Reply id reply) = ⊥
 IsServable (message.Stale id old new changes) = ⊥
 IsServable (message.Opened id dir) = ⊥
-IsServable (message.ListAsk id version dir) = ⊥
+IsServable (message.ListAsk id version dir) = Unit {0}
 IsServable (message.ListPart id node names) = ⊥
 IsServable (message.FetchGot number key what) = ⊥
 IsServable (message.Lock op keys) = Unit {0}

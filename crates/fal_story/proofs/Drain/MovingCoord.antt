@@ -86,13 +86,13 @@ pub each_range : (P : ℕ → Type 0) (from count : ℕ) → ((n : ℕ) → n < 
 each_range P from zero holds = tt
 each_range P from (suc count) holds = (holds from (omega arith), each_range P (from + 1) count (λ n below. holds n (omega arith)))
 
-each_told : (count n : ℕ) (of : ℕ → Message) → n < count → IsIn (letter (Node n) (Here 0) (of n)) (map (λ i. letter (Node i) (Here 0) (of i)) (range_with_len 0 count))
+pub each_told : (count n : ℕ) (of : ℕ → Message) → n < count → IsIn (letter (Node n) (Here 0) (of n)) (map (λ i. letter (Node i) (Here 0) (of i)) (range_with_len 0 count))
 each_told count n of below = in_map (λ (i : ℕ). letter (Node i) (Here 0) (of i)) (range_with_len 0 count) n (in_range 0 count n (omega arith) (omega arith))
 
 pub node_told : (count n : ℕ) (m : Message) → n < count → IsIn (letter (Node n) (Here 0) m) (to_nodes count m)
 node_told count n m below = each_told count n (λ i. m) below
 
-each_go : (config : Config) (count : ℕ) (of : ℕ → Message) → count ≡ config.nodes → Each (λ (l : Letter). IsActor config l.to) (map (λ i. letter (Node i) (Here 0) (of i)) (range_with_len 0 count))
+pub each_go : (config : Config) (count : ℕ) (of : ℕ → Message) → count ≡ config.nodes → Each (λ (l : Letter). IsActor config l.to) (map (λ i. letter (Node i) (Here 0) (of i)) (range_with_len 0 count))
 each_go config count of same =
     each_map (λ (l : Letter). IsActor config l.to) (λ i. letter (Node i) (Here 0) (of i)) (range_with_len 0 count)
     (each_range (λ i. i < config.nodes) 0 count (λ n below. let few = same in omega arith))

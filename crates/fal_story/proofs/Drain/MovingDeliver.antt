@@ -4,6 +4,7 @@ use Rattle.std.specs.Prelude.{slice_get, ◌==◌}
 use Rattle.std.specs.List.{All}
 use Rattle.std.specs.Option.{option_map}
 use Rattle.std.specs.Result.{result_ok}
+use Rattle.fal_base.specs.declared.call.CallId.{CallId}
 use Rattle.fal_base.specs.declared.call.CallRec.{CallRec}
 use Rattle.fal_base.specs.declared.call.Config.{Config}
 use Rattle.fal_base.specs.declared.event.Actor.TheVariants.{Node}
@@ -181,6 +182,22 @@ ask_moves config w came n e asker number key x there m c read =
     (each_weaker _ _ node.waiting.calls (λ y h f is. ways n f (h f is)) (m.waits n))
     (λ i f _ o. ways i f o) (each_join (λ (i : Item). IsServable i.message) node.items (item ∷ []) (m.servable n) (tt, tt)) (m.holders n)
     (plain_hearing w came n e x k (no_seat config w came n there m) c (λ y is z. same_kind (message.FetchAsk asker number key) y is (sym (ap result_ok read) ∙ z)) refl refl refl)
+
+-- ---- what asks for a part of a listing
+
+pub list_comes : (config : Config) (w : World) (came : ℕ → Bool) (n e version dir : ℕ) (id : CallId) (x : Envelope) → n < config.nodes → IsMoving config w came → IsComing w n e x
+    → reading x.bytes ≡ Ok (message.ListAsk id version dir) → IsMoving config (After config w n (begun (with_item (w.nodes n) (message.ListAsk id version dir)))) (put came e true)
+unfolding with_item
+list_comes config w came n e version dir id x there m c read =
+    let node = w.nodes n in
+    let k = begun (with_item node (message.ListAsk id version dir)) in
+    let item : Item = record { number = node.items_numbered; message = message.ListAsk id version dir } in
+    order_moves config w came n e x k there m c
+    (λ i f key is. let z : Some (message.ListAsk id version dir) ≡ Some (message.FetchAsk i f key) = sym (ap result_ok read) ∙ is in absurd (cc))
+    (λ f key what is. let z : Some (message.ListAsk id version dir) ≡ Some (message.FetchGot f key what) = sym (ap result_ok read) ∙ is in absurd (cc))
+    (λ i y lt. absurd (omega arith)) tt (λ y at. in_front node.items (item ∷ []) y at) (each_join (λ (i : Item). IsServable i.message) node.items (item ∷ []) (m.servable n) (tt, tt))
+    (λ posts later items h. h) (m.holders n)
+    (plain_hearing w came n e x k (no_seat config w came n there m) c (λ y is z. same_kind (message.ListAsk id version dir) y is (sym (ap result_ok read) ∙ z)) refl refl refl)
 
 -- ---- an answer
 

@@ -11,7 +11,7 @@ use Rattle.fal_base.specs.declared.op.Op.{Op}
 use Rattle.fal_base.specs.declared.op.Op.TheVariants as op
 use Rattle.fal_base.specs.declared.path.PathArg.TheVariants.{Good, Bad}
 use Rattle.fal_base.specs.declared.reply.Errno.{Errno}
-use Rattle.fal_base.specs.declared.reply.Errno.TheVariants.{Eacces, Eexist, Eisdir, Eperm}
+use Rattle.fal_base.specs.declared.reply.Errno.TheVariants.{Eacces, Eexist, Eisdir, Enotdir, Eperm}
 use Rattle.fal_base.specs.declared.reply.Reply.TheVariants.{Fail, Fine, Stat}
 use Rattle.fal_base.specs.Tree.{Tree, row_at}
 use Rattle.fal_base.specs.declared.inode.Kind.TheVariants.{Dir, File}
@@ -22,7 +22,7 @@ use Rattle.fal_exec.specs.declared.outcome.Change.TheVariants.{Put, Remove}
 use Rattle.fal_exec.specs.declared.outcome.ExecOut.{ExecOut}
 use Rattle.fal_exec.specs.declared.outcome.ExecOut.TheVariants as out
 use Rattle.fal_exec.specs.RowCall.{row_names}
-use Rattle.fal_exec.specs.Outcome.{outcome_of, unless_refused, where_found, without_change, changed, make_outcome, access_outcome, chmod_outcome, chown_outcome, truncate_outcome, unlink_outcome}
+use Rattle.fal_exec.specs.Outcome.{outcome_of, unless_refused, where_found, without_change, changed, make_outcome, access_outcome, chmod_outcome, chown_outcome, list_outcome, truncate_outcome, unlink_outcome}
 use Rattle.fal_locks.specs.declared.holder.Holder.{Holder}
 use Rattle.fal_locks.specs.Locks.{LockTable}
 use Rattle.fal_node.specs.declared.batch.Batch.{Batch}
@@ -45,13 +45,13 @@ use Rattle.fal_story.proofs.Events.Shows.{Ghost, Shows, PlannedAt, planned_lane,
 use Rattle.fal_story.proofs.Lists.Each.{Each, each_weaker, each_join, each_front, each_back}
 use Rattle.fal_story.proofs.Lists.Members.{IsIn, find_in, in_map}
 use Rattle.fal_story.proofs.Phase.{Idle, Plans}
-use Rattle.fal_story.specs.Clusters.{is_served, is_lane}
+use Rattle.fal_story.specs.Clusters.{is_lane}
 use Rattle.fal_story.specs.World.{World}
 
--- the call is answered to its client, by a reply, or is one that the coordinator carries out, and is passed on to it
+-- the call is answered to its client, by a reply, or its directory is opened, or it is one that the coordinator carries out, and is passed on to it
 abbrev pub IsBack : Op → ExecOut → Type 0
 IsBack call (out.Finish reply change) = Unit {0}
-IsBack call (out.Opened ino) = ⊥
+IsBack call (out.Opened ino) = Unit {0}
 IsBack call out.PassOn = IsTrue (is_operation call)
 
 checked_back : (call : Op) (checks : List (Bool × Errno)) (o : ExecOut) → IsBack call o → IsBack call (unless_refused checks o)
@@ -69,37 +69,39 @@ changed_back call inode now h = elim (is_dir inode) as (λ b. IsBack call (cond 
 make_back : (call : Op) (row : Option Inode) (parent : Option Dentry) (cred : Cred) (made : Inode) → IsBack call (make_outcome row parent cred made)
 make_back call row parent cred made = checked_back call ((is_some row, Eexist) ∷ (not (kept_grants cred 2 parent), Eacces) ∷ []) (out.Finish Fine (Put made)) tt
 
-outcome_back : (row : Option Inode) (parent : Option Dentry) (cred : Cred) (call : Op) (fresh : ℕ) → IsTrue (is_served call) → op_field.Fits call → IsTrue (is_some (row_names call)) → IsBack call (outcome_of row parent cred call fresh)
+outcome_back : (row : Option Inode) (parent : Option Dentry) (cred : Cred) (call : Op) (fresh : ℕ) → op_field.Fits call → IsTrue (is_some (row_names call)) → IsBack call (outcome_of row parent cred call fresh)
 unfolding op_field path_and_mode path_and_owner path_arg_field
-outcome_back row parent cred (op.Mkdir path mode) fresh served fits rows = make_back (op.Mkdir path mode) row parent cred (new_row cred Dir mode fresh)
-outcome_back row parent cred (op.Create path mode) fresh served fits rows = make_back (op.Create path mode) row parent cred (new_row cred File mode fresh)
-outcome_back row parent cred (op.Stat path) fresh served fits rows = found_back (op.Stat path) row (λ inode. without_change (Stat inode)) (λ inode. tt)
-outcome_back row parent cred (op.Access path want) fresh served fits rows =
+outcome_back row parent cred (op.Mkdir path mode) fresh fits rows = make_back (op.Mkdir path mode) row parent cred (new_row cred Dir mode fresh)
+outcome_back row parent cred (op.Create path mode) fresh fits rows = make_back (op.Create path mode) row parent cred (new_row cred File mode fresh)
+outcome_back row parent cred (op.Stat path) fresh fits rows = found_back (op.Stat path) row (λ inode. without_change (Stat inode)) (λ inode. tt)
+outcome_back row parent cred (op.Access path want) fresh fits rows =
     found_back (op.Access path want) row (access_outcome cred want) (λ inode. checked_back (op.Access path want) ((not (grants cred want inode), Eacces) ∷ []) (without_change Fine) tt)
-outcome_back row parent cred (op.Chmod (Good names) mode) fresh served fits rows =
+outcome_back row parent cred (op.Chmod (Good names) mode) fresh fits rows =
     found_back (op.Chmod (Good names) mode) row (chmod_outcome cred mode)
     (λ inode. checked_back (op.Chmod (Good names) mode) ((not (cred.uid == 0 || cred.uid == inode.uid), Eperm) ∷ []) (changed inode (record inode { mode = mode })) (changed_back (op.Chmod (Good names) mode) inode (record inode { mode = mode }) refl))
-outcome_back row parent cred (op.Chmod (Bad fault raw) mode) fresh served fits rows = absurd (fits.0)
-outcome_back row parent cred (op.Chown (Good names) uid gid) fresh served fits rows =
+outcome_back row parent cred (op.Chmod (Bad fault raw) mode) fresh fits rows = absurd (fits.0)
+outcome_back row parent cred (op.Chown (Good names) uid gid) fresh fits rows =
     found_back (op.Chown (Good names) uid gid) row (chown_outcome cred uid gid)
     (λ inode. checked_back (op.Chown (Good names) uid gid) ((not (cred.uid == 0), Eperm) ∷ []) (changed inode (record inode { uid = uid; gid = gid })) (changed_back (op.Chown (Good names) uid gid) inode (record inode { uid = uid; gid = gid }) refl))
-outcome_back row parent cred (op.Chown (Bad fault raw) uid gid) fresh served fits rows = absurd (fits.0)
-outcome_back row parent cred (op.Truncate path size) fresh served fits rows =
+outcome_back row parent cred (op.Chown (Bad fault raw) uid gid) fresh fits rows = absurd (fits.0)
+outcome_back row parent cred (op.Truncate path size) fresh fits rows =
     found_back (op.Truncate path size) row (truncate_outcome cred size)
     (λ inode. checked_back (op.Truncate path size) ((is_dir inode, Eisdir) ∷ (not (grants cred 2 inode), Eacces) ∷ []) (out.Finish Fine (Put (record inode { size = size }))) tt)
-outcome_back row parent cred (op.Unlink path) fresh served fits rows =
+outcome_back row parent cred (op.Unlink path) fresh fits rows =
     found_back (op.Unlink path) row (unlink_outcome parent cred)
     (λ inode. checked_back (op.Unlink path) ((not (kept_grants cred 2 parent), Eacces) ∷ (is_dir inode, Eperm) ∷ []) (out.Finish Fine Remove) tt)
-outcome_back row parent cred (op.Rmdir path) fresh served fits rows = tt
-outcome_back row parent cred (op.Rename old new) fresh served fits rows = tt
-outcome_back row parent cred (op.List path) fresh served fits rows = absurd (cc)
-outcome_back row parent cred (op.Place name rule) fresh served fits rows = absurd (cc)
+outcome_back row parent cred (op.Rmdir path) fresh fits rows = tt
+outcome_back row parent cred (op.Rename old new) fresh fits rows = tt
+outcome_back row parent cred (op.List path) fresh fits rows =
+    found_back (op.List path) row (list_outcome cred)
+    (λ inode. checked_back (op.List path) ((not (is_dir inode), Enotdir) ∷ (not (grants cred 4 inode), Eacces) ∷ []) (out.Opened inode.ino) tt)
+outcome_back row parent cred (op.Place name rule) fresh fits rows = absurd (cc)
 
-pub call_back : (number : ℕ) (rows : Tree) (drawn : ℕ) (x : BatchCall) → IsTrue (is_served x.call.op) → op_field.Fits x.call.op → IsTrue (is_some (row_names x.call.op)) → IsBack x.call.op (call_outcome number rows drawn x)
-call_back number rows drawn x served fits on_rows =
+pub call_back : (number : ℕ) (rows : Tree) (drawn : ℕ) (x : BatchCall) → op_field.Fits x.call.op → IsTrue (is_some (row_names x.call.op)) → IsBack x.call.op (call_outcome number rows drawn x)
+call_back number rows drawn x fits on_rows =
     elim x.denied as (λ b. IsBack x.call.op (cond b (without_change (Fail Eacces)) (outcome_of (row_at rows x.last) x.parent x.call.cred x.call.op (number_after number drawn)))) [
       | true ↦ tt
-      | false ↦ outcome_back (row_at rows x.last) x.parent x.call.cred x.call.op (number_after number drawn) served fits on_rows
+      | false ↦ outcome_back (row_at rows x.last) x.parent x.call.cred x.call.op (number_after number drawn) fits on_rows
     ]
 
 answer_goes : (config : Config) (call : CallRec) (commits : ℕ) (o : ExecOut) → IsTrue (is_lane config call.id.client) → IsActor config (answer_letter call commits o).to
@@ -121,9 +123,8 @@ pub record IsRun (config : Config) (k after : Work) : Type 0 where
   pub blocked : after.node.blocked ≡ k.node.blocked
   pub go : Each (λ (l : Letter). IsActor config l.to) after.sent
 
--- a call that is served, that a record can hold and that one row decides, of a lane that is there
+-- a call that a record can hold and that one row decides, of a lane that is there
 pub record IsGiven (config : Config) (x : BatchCall) : Type 0 where
-  pub served : IsTrue (is_served x.call.op)
   pub fits : op_field.Fits x.call.op
   pub rows : IsTrue (is_some (row_names x.call.op))
   pub lane : IsTrue (is_lane config x.call.id.client)
@@ -168,7 +169,6 @@ given_calls config w n h xs s planned =
     each_weaker _ _ xs (λ x at.
     let busy : h.phase (planned_lane x) ≢ Idle = (λ e. let wrong : Idle ≡ Plans n x = sym e ∙ at.0 in absurd (cc)) in
     record {
-      served = subst (λ (c : CallRec). IsTrue (is_served c.op)) (sym at.1) (s.good.lanes.under_way.served (planned_lane x) busy);
       fits = subst (λ (c : CallRec). op_field.Fits c.op) (sym at.1) (s.good.lanes.under_way.fits (planned_lane x) busy);
       rows = at.2;
       lane = lane_there config (view_of config w h) (planned_lane x) s.good busy;

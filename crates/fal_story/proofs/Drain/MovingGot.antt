@@ -31,7 +31,7 @@ use Rattle.fal_wire.specs.declared.message.Message.TheVariants as message
 use Rattle.fal_wire.specs.Messages.{Fits, reading}
 use Rattle.fal_story.proofs.Drain.Actors.{IsActor, waiters_there}
 use Rattle.fal_story.proofs.Drain.Moving.{IsMoving}
-use Rattle.fal_story.proofs.Drain.MovingDeliver.{IsComing, other_moves, call_moves, ask_moves, got_moves, off_other, not_waiting, same_kind}
+use Rattle.fal_story.proofs.Drain.MovingDeliver.{IsComing, other_moves, call_moves, ask_moves, list_comes, got_moves, off_other, not_waiting, same_kind}
 use Rattle.fal_story.proofs.Drain.MovingInstall.{install_moves}
 use Rattle.fal_story.proofs.Drain.MovingOrders.{block_comes, lock_comes, count_comes, commit_comes}
 use Rattle.fal_story.proofs.Drain.FollowDeliver.{coming_post}
@@ -123,6 +123,7 @@ message_moves config w came n e x h (message.Call call) there s m c is fit = cal
 message_moves config w came n e x h (message.FetchAsk asker number key) there s m c is fit =
     subst (λ b. IsMoving config (After config w n (begun (cond b (with_item (w.nodes n) (message.FetchAsk asker number key)) (w.nodes n)))) (put came e true)) (sym (asker_there config w n e asker number key x h there s c is))
     (ask_moves config w came n e asker number key x there m c is)
+message_moves config w came n e x h (message.ListAsk id version dir) there s m c is fit = list_comes config w came n e version dir id x there m c is
 message_moves config w came n e x h (message.FetchGot number key what) there s m c is fit =
     pending_moves config w came n e number key what x (fetch_of (w.nodes n).waiting number) h there s m c is refl fit
 message_moves config w came n e x h (message.Lock operation keys) there s m c is fit = lock_comes config w came n e x there m c operation keys is

@@ -1,7 +1,8 @@
 -- A cluster goes on when a batch is released and when an item is served.
-use Rattle.std.proofs.Common.{◌≡◌, ◌⊎◌, inl, inr, ⊎_elim, ℕ, ◌<◌, Bool, true, false, not, ◌||◌, cond, List, [], ◌∷◌, ◌++◌, length, filter, Option, Some, None, refl, sym, ap, subst, ◌∙◌, arith}
+use Rattle.std.proofs.Common.{◌≡◌, ◌⊎◌, inl, inr, ⊎_elim, ℕ, ◌<◌, Bool, true, false, not, ◌||◌, cond, List, [], ◌∷◌, ◌++◌, length, filter, Option, Some, None, IsTrue, refl, sym, ap, subst, ◌∙◌, arith}
 use Rattle.std.specs.Prelude.{◌==◌}
 use Rattle.std.specs.List.{All, find}
+use Rattle.fal_base.specs.declared.call.CallId.{CallId}
 use Rattle.fal_base.specs.declared.call.Config.{Config}
 use Rattle.fal_base.specs.declared.event.Actor.TheVariants.{Node, Coord}
 use Rattle.fal_base.specs.declared.event.Point.TheVariants.{Here}
@@ -21,7 +22,7 @@ use Rattle.fal_node.specs.declared.batch.Batch.{Batch}
 use Rattle.fal_node.specs.declared.item.Item.{Item}
 use Rattle.fal_wire.specs.declared.letter.Letter.{Letter}
 use Rattle.fal_node.specs.Letters.{Work, begun, asker_of}
-use Rattle.fal_node.specs.Serve.{block_service, blocking, can_serve, can_tell, fetch_service, lock_service, owns, served, served_as, service_of, shutting}
+use Rattle.fal_node.specs.Serve.{block_service, blocking, can_serve, can_tell, fetch_service, list_service, lock_service, owns, served, served_as, service_of, shutting}
 use Rattle.fal_node.specs.State.{NodeState, blocked_names, item_of, released, without_item}
 use Rattle.fal_place.specs.Placement.{owner}
 use Rattle.fal_wait.specs.declared.waiting_call.WaitingCall.{WaitingCall}
@@ -31,7 +32,7 @@ use Rattle.fal_wire.specs.declared.message.Message.{Message}
 use Rattle.fal_wire.specs.declared.message.Message.TheVariants as message
 use Rattle.fal_wire.specs.Messages.{Fits}
 use Rattle.fal_wire.specs.Letters.{letter}
-use Rattle.fal_story.proofs.Drain.Actors.{IsActor}
+use Rattle.fal_story.proofs.Drain.Actors.{IsActor, sent_lane}
 use Rattle.fal_story.proofs.Drain.Blocked.{BarAt}
 use Rattle.fal_story.proofs.Drain.Fresh.{IsFresh}
 use Rattle.fal_story.proofs.Drain.Hearing.{still_hearing}
@@ -46,12 +47,13 @@ use Rattle.fal_story.proofs.Events.Rules.{name_free}
 use Rattle.fal_story.proofs.Events.ServeEvent.{got, asker_seat}
 use Rattle.fal_story.proofs.Events.Doing.{name_in}
 use Rattle.fal_story.proofs.Events.InStep.{letter_posts}
-use Rattle.fal_story.proofs.Events.Shows.{Ghost, Shows, posts_of, is_lock, locks_in, listed_of}
+use Rattle.fal_story.proofs.Events.Shows.{Ghost, Shows, posts_of, is_lock, locks_in, listed_of, view_of}
 use Rattle.fal_story.proofs.Events.Tables.{owner_there}
 use Rattle.fal_story.proofs.Lists.Each.{Each, each_weaker}
 use Rattle.fal_story.proofs.Lists.Grown.{tells, put_all, slice_get_front}
 use Rattle.fal_story.proofs.Lists.Members.{IsIn, find_in, each_all, each_in, each_map, each_without_first, same_number}
 use Rattle.fal_story.proofs.View.{Post, IsPosted}
+use Rattle.fal_story.specs.Clusters.{is_lane}
 use Rattle.fal_story.specs.World.{World}
 
 -- ---- a step that keeps the waiting calls and the items
@@ -104,7 +106,7 @@ asker_goes config asker who =
     (tells asker 255)
 
 -- an item of the list is the one that was served, or is there still
-still_kept : (number : ℕ) (items : List Item) (item x : Item) → find (λ i. i.number == number) items ≡ Some item → IsIn x items → (x ≡ item) ⊎ IsIn x (without_first (λ i. i.number == number) items)
+pub still_kept : (number : ℕ) (items : List Item) (item x : Item) → find (λ i. i.number == number) items ≡ Some item → IsIn x items → (x ≡ item) ⊎ IsIn x (without_first (λ i. i.number == number) items)
 still_kept number [] item x is at = absurd at
 still_kept number (y ∷ ys) item x is at =
     elim (y.number == number) as (λ b. cond b (Some y) (find (λ i. i.number == number) ys) ≡ Some item → (x ≡ item) ⊎ IsIn x (cond b ys (y ∷ without_first (λ i. i.number == number) ys))) [
@@ -297,6 +299,31 @@ module _ (config : Config) (w : World) (came : ℕ → Bool) (n number : ℕ) (h
       (λ P none each. each) left_servable (m.holders n)
       (block_heard w.coord.stage operation name rows k (order_queued (message.Block operation name) is refl) (s.good.bars.stands n there) refl refl told)
 
+  -- ---- what asks for a part of a listing
+
+  -- its client is there, since the call was sent
+  client_there : (id : CallId) (version dir : ℕ) → item.message ≡ message.ListAsk id version dir → IsTrue (is_lane config id.client)
+  client_there id version dir is =
+      let sent = each_in _ (w.nodes n).items item (s.items n) found.1 in
+      let posted : IsPosted old sent.0 (Node n) sent.1.0 (message.ListAsk id version dir) = subst (IsPosted old sent.0 (Node n) sent.1.0) is sent.1.1 in
+      let x = s.good.knowing.asks sent.0 sent.1.0 n id version dir posted in
+      let some : 0 < id.seq = x.2 in
+      sent_lane config (view_of config w h) id.client s.good
+      (⊎_elim
+      (λ older. ⊎_elim (λ less. let z : id.seq < (w.clients id.client).seq = less in omega arith) (λ y. let z : id.seq ≡ (w.clients id.client).seq = y.0 in omega arith) older)
+      (λ listed. let z : id.seq ≡ (w.clients id.client).seq = listed.0.0 in omega arith)
+      x.1)
+
+  list_moves : (id : CallId) (version dir : ℕ) → item.message ≡ message.ListAsk id version dir → All (λ (l : Letter). Fits l.message) (served_as (list_service (w.nodes n) id version dir) item.number).sent
+      → IsMoving config (After config w n (served_as (list_service (w.nodes n) id version dir) item.number)) came
+  unfolding without_item
+  list_moves id version dir is fit =
+      let node = w.nodes n in
+      let k = served_as (list_service node id version dir) item.number in
+      served_moves config w came n (message.ListAsk id version dir) k there m fit (client_there id version dir is, tt) (λ i f q same. absurd (cc)) (left_of (message.ListAsk id version dir) is)
+      (λ P none each. each) left_servable (m.holders n)
+      (hearing_kept old (posts_after w k) came came w.coord.operation w.coord.stage n node k.node (still_at k) refl refl refl)
+
   -- ---- by the kind of the item
 
   kind_moves : (kind : Message) → item.message ≡ kind → can_serve (w.nodes n) kind ≡ true → All (λ (l : Letter). Fits l.message) (served_as (service_of (w.nodes n) kind) item.number).sent
@@ -304,6 +331,7 @@ module _ (config : Config) (w : World) (came : ℕ → Bool) (n number : ℕ) (h
   kind_moves (message.FetchAsk asker fetch key) is can fit = asked_moves asker fetch key is can fit
   kind_moves (message.Lock operation keys) is can fit = lock_moves operation keys is fit
   kind_moves (message.Block operation name) is can fit = block_moves operation name is fit
+  kind_moves (message.ListAsk id version dir) is can fit = list_moves id version dir is fit
   kind_moves other is can fit = absurd (cc)
 
   pub serve_moves : can_serve (w.nodes n) item.message ≡ true → All (λ (l : Letter). Fits l.message) (served (w.nodes n) item).sent → IsMoving config (After config w n (served (w.nodes n) item)) came

@@ -9,9 +9,9 @@ use Rattle.fal_base.specs.declared.entry.Entry.TheVariants.{Sent, Commit, Opened
 use Rattle.fal_base.specs.declared.event.Event.{Event}
 use Rattle.fal_base.specs.EachOnce.{IsAnsweredBefore, AreOneByOne}
 use Rattle.fal_base.specs.Transcript.{sents}
-use Rattle.fal_story.proofs.Drain.FollowRuns.{IsLive, step_follows, opening_live}
+use Rattle.fal_story.proofs.Drain.FollowRuns.{IsLive, opening_live, step_lives}
 use Rattle.fal_story.proofs.Drain.SendCounts.{step_sends}
-use Rattle.fal_story.proofs.Drain.MovingRuns.{step_moves, legal_holds}
+use Rattle.fal_story.proofs.Drain.MovingRuns.{legal_holds}
 use Rattle.fal_story.proofs.Events.LegalRuns.{IsKept, step_kept}
 use Rattle.fal_story.proofs.Histories.Deeds.{deed_does}
 use Rattle.fal_story.proofs.Lists.Grown.{slice_get_front, slice_get_below}
@@ -101,6 +101,6 @@ legal_one_by_one config events legal =
   where
     steps : (v u : World) (c : ℕ → Bool) (e : Event) → v.events < 2 ^ 63 → IsKept config v → IsPaced config v c → step config v e ≡ Some u → IsPaced config u (came_with e c)
     steps v u c e few k p is = record {
-      live = record { moving = step_moves config v c legal.cluster few k p.live.moving u e is; followed = step_follows config v c legal.cluster few k p.live.moving p.live.followed u e is };
+      live = step_lives config v u c e legal.cluster few k p.live is;
       paced = one_more config v u e c k (step_kept config v u e legal.cluster few k is) p.live p.paced is;
     }

@@ -1,5 +1,5 @@
 -- Where nothing but Send is fresh the cluster is quiet.
-use Rattle.std.proofs.Common.{◌≡◌, ⊎_elim, eq-eqb, is_some, ℕ, zero, suc, ◌<◌, ◌≤◌, nat_lt, Bool, true, false, not, ◌&&◌, ◌||◌, cond, List, [], ◌∷◌, length, Option, Some, None, is_none, refl, sym, ap, subst, ◌∙◌, arith}
+use Rattle.std.proofs.Common.{◌≡◌, ◌≢◌, ⊎_elim, eq-eqb, is_some, ℕ, zero, suc, ◌<◌, ◌≤◌, nat_lt, Bool, true, false, not, ◌&&◌, ◌||◌, cond, List, [], ◌∷◌, length, Option, Some, None, is_none, refl, sym, ap, subst, ◌∙◌, arith}
 use Rattle.std.specs.Prelude.{slice_get, ◌==◌, IsSome}
 use Rattle.std.specs.List.{list_all, list_any}
 use Rattle.std.proofs.lemmas.Bool.Decides.{nat_tests}
@@ -28,13 +28,14 @@ use Rattle.fal_node.specs.declared.batch.Batch.{Batch}
 use Rattle.fal_node.specs.declared.item.Item.{Item}
 use Rattle.fal_node.specs.Due.{is_quiet}
 use Rattle.fal_node.specs.Gather.{setting_at, plan_at}
-use Rattle.fal_node.specs.Serve.{can_serve, owns}
+use Rattle.fal_node.specs.Serve.{can_serve, is_behind, owns}
 use Rattle.fal_node.specs.State.{blocked_names, NodeState}
+use Rattle.fal_place.specs.Placement.{Placement}
 use Rattle.fal_wait.specs.declared.waiting_call.WaitingCall.{WaitingCall}
 use Rattle.fal_wire.specs.declared.message.Message.{Message}
 use Rattle.fal_wire.specs.declared.message.Message.TheVariants as message
 use Rattle.fal_story.proofs.Drain.Actors.{IsActor}
-use Rattle.fal_story.proofs.Drain.Blocked.{bar_at, none_blocked, none_of, some_of}
+use Rattle.fal_story.proofs.Drain.Blocked.{bar_at, recorded_at, none_blocked, none_of, some_of}
 use Rattle.fal_story.proofs.Drain.Moving.{IsMoving, IsServable, items_in}
 use Rattle.fal_story.proofs.Drain.Fresh.{IsFresh}
 use Rattle.fal_story.proofs.Drain.MovingDeliver.{no_seat}
@@ -46,12 +47,14 @@ use Rattle.fal_story.proofs.Drain.OnWay.{IsOnWay, Asks, Keeps, Gets}
 use Rattle.fal_story.proofs.Events.Doing.{name_in}
 use Rattle.fal_story.proofs.Gathers.Going.{GoesOn, fates_go}
 use Rattle.fal_story.proofs.Events.Shows.{Ghost, Shows, IsCurrent, IsTidy, posts_of, locks_in, listed_of}
+use Rattle.fal_story.proofs.Events.Tables.{coord_version}
 use Rattle.fal_story.proofs.Families.Operation.{shut_by}
 use Rattle.fal_story.proofs.Lists.Each.{Each, each_weaker, each_both}
+use Rattle.fal_story.proofs.Lists.Grown.{tells}
 use Rattle.fal_story.proofs.Lists.GatherLists.{tickets_apart}
 use Rattle.fal_story.proofs.Lists.Members.{IsIn, each_in, in_at}
 use Rattle.fal_story.proofs.Lists.WaitLists.{rising_apart}
-use Rattle.fal_story.proofs.View.{Post, post}
+use Rattle.fal_story.proofs.View.{Post, IsPosted, post}
 use Rattle.fal_story.specs.Clusters.{IsCluster}
 use Rattle.fal_story.specs.Fresh.{IsQuiet, IsQuietAt, came, first_reply, fresh_replies_at}
 use Rattle.fal_story.specs.Run.{IsLegal, run}
@@ -73,9 +76,35 @@ no_holders : (hs : List Holder) → Each (λ (h : Holder). (b : Batch) × (IsIn 
 no_holders [] all = refl
 no_holders (h ∷ hs) all = absurd all.0.1.0
 
+-- what asks for a part knows no later table
+abbrev IsTimely : NodeState → Message → Type 0
+IsTimely node (message.ListAsk id version dir) = version ≤ node.table.version
+IsTimely node other = Unit {0}
+
+timely_listed : (version table : ℕ) → version ≤ table → (nat_lt version table || ((version == table) && true)) ≡ true
+timely_listed version table within =
+    ⊎_elim
+    (λ same. ap (λ b. nat_lt version table || (b && true)) same.0 ∙ or_true (nat_lt version table))
+    (λ apart. let ne = apart.1 in let later : nat_lt version table ≡ true = earlier version table within ne in ap (λ b. b || ((version == table) && true)) later)
+    (tells version table)
+  where
+    or_true : (b : Bool) → (b || true) ≡ true
+    or_true true = refl
+    or_true false = refl
+
+    earlier : (a b : ℕ) → a ≤ b → a ≢ b → nat_lt a b ≡ true
+    earlier a b le ne = let lt : a < b = less a b le ne in grind (arith, nat_tests)
+      where
+        less : (a b : ℕ) → a ≤ b → a ≢ b → a < b
+        less a b le ne = grind arith
+
 -- so each item can be served, of whichever kind
-item_served : (node : NodeState) (kind : Message) → HoldsNothing node → IsServable kind → can_serve node kind ≡ true
-item_served node (message.FetchAsk asker number key) free can =
+item_served : (node : NodeState) (kind : Message) → HoldsNothing node → IsServable kind → IsTimely node kind → can_serve node kind ≡ true
+item_served node (message.ListAsk id version dir) free can timely =
+    ap (λ o. is_behind node version || ((version == node.table.version) && (not (is_some o) && not (is_some node.blocked)))) free.shut
+    ∙ ap (λ o. is_behind node version || ((version == node.table.version) && (not (is_some o)))) free.blocked
+    ∙ timely_listed version node.table.version timely
+item_served node (message.FetchAsk asker number key) free can timely =
     ap (λ b. not (bars (blocked_names b) key.name) && (not (owns node key) || not (is_shut node.locks key))) free.blocked
     ∙ ap (λ b. not (owns node key) || not b) (none_shut node.locks key free.shut)
     ∙ or_true (not (owns node key))
@@ -83,15 +112,15 @@ item_served node (message.FetchAsk asker number key) free can =
     or_true : (b : Bool) → (b || true) ≡ true
     or_true true = refl
     or_true false = refl
-item_served node (message.Lock operation keys) free can =
+item_served node (message.Lock operation keys) free can timely =
     ap (λ b. not b && not (list_any (λ key. is_held node.locks key) keys)) (ap (λ o. is_some o) free.shut) ∙ ap not (none_any keys)
   where
     none_any : (keys : List Key) → list_any (λ key. is_held node.locks key) keys ≡ false
     none_any [] = refl
     none_any (key ∷ keys) = ap (λ hs. list_any (λ (x : Holder). has_key x.keys key) hs || list_any (λ key. is_held node.locks key) keys) free.holders ∙ none_any keys
-item_served node (message.Block operation name) free can =
+item_served node (message.Block operation name) free can timely =
     ap (λ o. not (is_some o) && not (is_name_held node.locks name)) free.blocked ∙ ap (λ hs. not (list_any (λ (x : Holder). has_name x.keys name) hs)) free.holders
-item_served node other free can = absurd can
+item_served node other free can timely = absurd can
 
 no_items : (items : List Item) → Each (λ (i : Item). ⊥) items → items ≡ []
 no_items [] h = refl
@@ -140,7 +169,7 @@ quiet_of : (node : NodeState) → node.batches ≡ [] → node.waiting.calls ≡
 quiet_of node b c i =
     ap (λ xs. (length xs == 0) && (length node.waiting.calls == 0) && (length node.items == 0)) b ∙ ap (λ xs. (length xs == 0) && (length node.items == 0)) c ∙ ap (λ (xs : List Item). length xs == 0) i
 
-quiet_items : (node : NodeState) → is_quiet node ≡ true → node.items ≡ []
+pub quiet_items : (node : NodeState) → is_quiet node ≡ true → node.items ≡ []
 quiet_items node quiet = empty node.items (second ((length node.batches == 0) && (length node.waiting.calls == 0)) (length node.items == 0) quiet)
   where
     second : (a b : Bool) → (a && b) ≡ true → b ≡ true
@@ -179,12 +208,24 @@ module _ (config : Config) (w : World) (c : ℕ → Bool) (cluster : IsCluster c
         holders = no_holders (w.nodes n).locks.holders (subst (λ bs. Each (λ (h : Holder). (b : Batch) × (IsIn b bs × (b.number ≡ h.number))) (w.nodes n).locks.holders) due.batches (m.holders n));
       }
 
+  -- each item that asks for a part was sent by a table that is recorded
+  items_timely : (n : ℕ) → n < config.nodes → IsFree n → Each (λ (i : Item). IsTimely (w.nodes n) i.message) (w.nodes n).items
+  items_timely n there open_now = each_weaker _ _ (w.nodes n).items (λ i sent. timely i.message sent.0 sent.1.0 sent.1.1) (s.items n)
+    where
+      timely : (kind : Message) (e p : ℕ) → IsPosted (posts_of w.envelopes) e (Node n) p kind → IsTimely (w.nodes n) kind
+      timely (message.ListAsk id version dir) e p sent =
+          let below = (s.good.knowing.asks e p n id version dir sent).0 in
+          let last : (w.nodes n).table.version ≡ length h.placings = ap (λ (t : Placement). t.version) (recorded_at config w h s n there open_now.1) ∙ coord_version config w h s in
+          omega arith
+      timely other e p sent = tt
+
   items_none : (n : ℕ) → n < config.nodes → IsFree n → (w.nodes n).items ≡ []
   items_none n there open_now =
       let due = none_due (w.nodes n) (none.no_dues n there) in
       let free = holds_nothing n there open_now in
       no_items (w.nodes n).items
-      (each_both (λ (i : Item). IsServable i.message) (λ (i : Item). can_serve (w.nodes n) i.message ≡ false) (λ i. ⊥) (w.nodes n).items (λ i is held. let can = item_served (w.nodes n) i.message free is in absurd (cc)) (m.servable n) due.items)
+      (each_both (λ (i : Item). IsServable i.message × IsTimely (w.nodes n) i.message) (λ (i : Item). can_serve (w.nodes n) i.message ≡ false) (λ i. ⊥) (w.nodes n).items (λ i is held. let can = item_served (w.nodes n) i.message free is.0 is.1 in absurd (cc))
+      (each_both (λ (i : Item). IsServable i.message) (λ (i : Item). IsTimely (w.nodes n) i.message) (λ (i : Item). IsServable i.message × IsTimely (w.nodes n) i.message) (w.nodes n).items (λ i a b. (a, b)) (m.servable n) (items_timely n there open_now)) due.items)
 
   -- nor does a node that is not there
   no_item : ((n : ℕ) → n < config.nodes → IsFree n) → (n : ℕ) → (w.nodes n).items ≡ []

@@ -17,7 +17,7 @@ use Rattle.fal_client.specs.State.{ClientState, Work as ClientWork}
 use Rattle.fal_coord.specs.declared.event.CoordEvent.TheVariants as coord_event
 use Rattle.fal_coord.specs.State.{Work as CoordWork}
 use Rattle.fal_coord.specs.Step.{coord_step}
-use Rattle.fal_client.specs.Step.{begun, skipped, answered, retried, client_step, sent_next, started}
+use Rattle.fal_client.specs.Step.{begun, skipped, answered, retried, client_step, sent_next, started, kept, listed, opened}
 use Rattle.fal_base.specs.OpPaths.{bad_path}
 use Rattle.fal_node.specs.declared.event.OwnEvent.{OwnEvent}
 use Rattle.fal_node.specs.declared.event.OwnEvent.TheVariants as own
@@ -58,10 +58,18 @@ send_paces c m is =
     enabled.sends c m (λ (y : ClientWork). Paces 1 c y.client) (λ call none left good. paces_one c _ refl none) (λ call fault none left bad. paces_one c _ refl none) is
 
 get_paces : (config : Config) (w : World) (l number : ℕ) (x : Envelope) (m : ClientWork) → IsKept config w → slice_get w.envelopes number ≡ Some x → client_step (w.clients l) (client.Get x) ≡ Some m → Paces 0 (w.clients l) m.client
-unfolding answered retried
+unfolding answered retried opened kept listed
 get_paces config w l number x m k at is =
-    enabled.gets config w l number k.ghost x m (λ (y : ClientWork). Paces 0 (w.clients l) y.client) k.shows at (λ unheard. paces_none _ _ refl) (λ id reply current heard. paces_none _ _ refl)
-    (λ id old new changes call attempt taking. paces_none _ _ refl) is
+    enabled.gets config w l number k.ghost x m (λ (y : ClientWork). Paces 0 (w.clients l) y.client) k.shows at (λ unheard. paces_none _ _ refl)
+    (record {
+      hears = λ id reply current heard. paces_none _ _ refl;
+      takes = λ id old new changes call attempt taking. paces_none _ _ refl;
+      restarts = λ id old new changes call attempt listing taking. paces_none _ _ refl;
+      opens = λ id dir call attempt told. paces_none _ _ refl;
+      keeps = λ id node names call attempt listing told missing more. paces_none _ _ refl;
+      lasts = λ id node names call attempt listing told missing one. paces_none _ _ refl;
+    })
+    is
 
 module _ (config : Config) (w u : World) (l : ℕ) (k : IsKept config w) where
   abbrev Sends : ℕ → World → Type 0

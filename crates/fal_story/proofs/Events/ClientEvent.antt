@@ -35,12 +35,13 @@ use Rattle.fal_wire.specs.Messages.{Fits, reading}
 use Rattle.fal_wire.proofs.ReadingLaws.{spelled_reads}
 use Rattle.fal_wire.specs.Letters.{output_of}
 use Rattle.fal_story.proofs.Events.Besides.{beside_at_client}
-use Rattle.fal_story.proofs.Events.ServedCalls.{call_is, node_seat, served_at}
-use Rattle.fal_story.proofs.Events.Shows.{Ghost, Shows, Held, Heard, AreSent, WaitsAt, PlannedAt, lane_of, planned_lane, view_of, post_of, posts_of, known_of}
+use Rattle.fal_story.proofs.Listing.Keeping.{keeping_put}
+use Rattle.fal_story.proofs.Events.ServedCalls.{call_is, node_seat, seated_at}
+use Rattle.fal_story.proofs.Events.Shows.{Ghost, Shows, Held, Heard, AreKept, AreSent, IsListed, WaitsAt, PlannedAt, lane_of, planned_lane, view_of, post_of, posts_of, known_of}
 use Rattle.fal_story.proofs.Good.{Good}
 use Rattle.fal_story.proofs.Lists.Each.{each_weaker}
 use Rattle.fal_story.proofs.Lists.Grown.{put_other, put_same, put_back, at_put, put_all, slice_get_front}
-use Rattle.fal_story.proofs.Phase.{Phase, Idle, Asked, Plans, Runs, IsHeld}
+use Rattle.fal_story.proofs.Phase.{Phase, Idle, Asked, Plans, Runs, Tells, Lists, IsHeld}
 use Rattle.fal_story.proofs.Steps.Called.{IsNext, asked_good}
 use Rattle.fal_story.proofs.Steps.Posted.{posted_good}
 use Rattle.fal_story.proofs.Steps.Skipped.{skipped_good}
@@ -83,7 +84,7 @@ heard_other config call call' phase phase' m c same_phase same_call x = record {
   nodes = x.nodes;
   left = x.left;
   none = λ e. same_phase ∙ x.none e;
-  some = λ current e. let y = x.some current e in ((λ z. y.0 (sym same_phase ∙ z)), y.1 ∙ ap plain (sym same_call), y.2 ∙ ap (λ (z : CallRec). z.id.attempt) (sym same_call), y.3);
+  some = λ current e. let y = x.some current e in ((λ z. y.0 (sym same_phase ∙ z)), y.1 ∙ ap plain (sym same_call), y.2 ∙ ap (λ (z : CallRec). z.id.attempt) (sym same_call), subst (λ p. IsListed config.nodes p current.listing) (sym same_phase) y.3);
 }
 
 drop_one : {A : Type 0} (xs : List A) (k : ℕ) → slice_get (drop 1 xs) k ≡ slice_get xs (suc k)
@@ -105,7 +106,7 @@ same_known clients l c same = at_put (λ (y : ClientState). y.table) clients l c
 pub rests : (config : Config) (w : World) (l : ℕ) (h : Ghost) → Shows config w h → EndsClient config w l (unchanged (w.clients l))
 unfolding posted
 rests config w l h s =
-    let later : Shows config (record w { events = w.events + 1 }) h = record { good = s.good; held = s.held; items = s.items; heard = s.heard; placed = s.placed; beside = s.beside } in
+    let later : Shows config (record w { events = w.events + 1 }) h = record { good = s.good; held = s.held; items = s.items; heard = s.heard; kept = s.kept; placed = s.placed; beside = s.beside } in
     (h, subst (λ u. Shows config u h) same later)
   where
     same : record w { events = w.events + 1 } ≡ posted config (record w { clients = put w.clients l (w.clients l) }) (Client l) [] []
@@ -136,7 +137,6 @@ next_is config w l h call cluster s left none =
       named = named;
       lane = heard_l.lane;
       number = refl;
-      served = (call_is config l (c.seq + 1) call cluster named).served;
       hop = refl;
       version = refl;
     }
@@ -144,7 +144,7 @@ next_is config w l h call cluster s left none =
 -- the next call is taken, and is sent or answered
 heard_next : (config : Config) (call' : ℕ → CallRec) (phase phase' : ℕ → Phase) (call : ℕ → CallRec) (l : ℕ) (c : ClientState) (current : Option Current)
     → (current ≡ None → phase' l ≡ Idle)
-    → ((x : Current) → current ≡ Some x → (phase' l ≢ Idle) × (x.call ≡ plain (call' l)) × (x.attempt ≡ (call' l).id.attempt) × (x.listing ≡ None))
+    → ((x : Current) → current ≡ Some x → (phase' l ≢ Idle) × (x.call ≡ plain (call' l)) × (x.attempt ≡ (call' l).id.attempt) × IsListed config.nodes (phase' l) x.listing)
     → Heard config call phase l c → Heard config call' phase' l (record (taken c) { current = current })
 heard_next config call' phase phase' call l c current none some x = record {
   lane = x.lane;
@@ -203,6 +203,7 @@ skips config w l h call fault cluster s left none bad =
         heard = put_all (λ m y. Heard config h'.call h.phase m y) w.clients l (taken c)
             (heard_next config h'.call h.phase h.phase h.call l c None (λ _. idle) (λ y e. absurd (cc)) x)
             (λ m ne. heard_other config h.call h'.call h.phase h.phase m (w.clients m) refl (put_other h.call l called m ne) (s.heard m));
+        kept = keeping_put w.commits w.clients l (taken c) (λ y e. absurd (cc)) s.kept;
         placed = s.placed;
         beside = beside_at_client config w.nodes w.coord h l h'.call h'.since h.phase s.good.operation.running (λ at. subst (IsHeld 255) idle at) (λ e. let wrong : Idle ≡ Runs = sym idle ∙ e in absurd (cc))
             (λ i p e. let wrong : Idle ≡ Plans i p = sym idle ∙ e in absurd (cc)) (λ m ne. (refl, put_other h.call l called m ne)) s.beside;
@@ -220,7 +221,7 @@ begins config w l h call cluster s left none good fit =
     let idle = x.none none in
     let called = record_of c call in
     let next = next_is config w l h call cluster s left none in
-    let to = served_at c.table call.op next.served in
+    let to = seated_at c.table call.op in
     let n = to.0 in
     let sent = letter_to (addressee c.table call.op) (message.Call called) in
     let fits = (call_is config l (c.seq + 1) call cluster next.named).fits good in
@@ -231,7 +232,7 @@ begins config w l h call cluster s left none good fit =
     let h' : Ghost = record h { call = put h.call l called; since = put h.since l count; phase = put h.phase l (Asked n) } in
     let v1 : View = record v { entries = w.entries ++ entry.Sent l (c.seq + 1) ∷ []; seq = put v.seq l (c.seq + 1); call = h'.call; since = h'.since; phase = h'.phase } in
     let second = posted_good config v1 (Node n) count (message.Call called)
-    (record { asking = tt; records = (n, refl, inl (sym (ap h'.call x.lane ∙ put_same h.call l called), ap h'.phase x.lane ∙ put_same h.phase l (Asked n))); operation = tt; bars = tt; knowing = tt })
+    (record { asking = tt; records = (n, refl, inl (sym (ap h'.call x.lane ∙ put_same h.call l called), ap h'.phase x.lane ∙ put_same h.phase l (Asked n))); operation = tt; bars = tt; knowing = tt; listings = tt })
     first in
     let new : ClientState = record (taken c) { current = Some (first_try call) } in
     let after : World = posted config (record w { clients = put w.clients l new }) (Client l) (output_of sent ∷ []) (note.Sent c.lane (c.seq + 1) ∷ []) in
@@ -254,10 +255,15 @@ begins config w l h call cluster s left none good fit =
         items = λ m. subst (λ ps. AreSent ps m (w.nodes m).items) posts (sent_more (posts_of w.envelopes) (post (Node n) count (message.Call called) ∷ []) m (w.nodes m).items (s.items m));
         heard = put_all (λ m y. Heard config h'.call h'.phase m y) w.clients l new
             (heard_next config h'.call h.phase h'.phase h.call l c (Some (first_try call)) (λ e. absurd (cc))
-            (λ y e. let is = same_Some (first_try call) y e in let asked = put_same h.phase l (Asked n) in
-            ((λ z. absurd (cc)), ap (λ (t : Current). t.call) (sym is) ∙ ap plain (sym (put_same h.call l called)), ap (λ (t : Current). t.attempt) (sym is) ∙ ap (λ (z : CallRec). z.id.attempt) (sym (put_same h.call l called)), ap (λ (t : Current). t.listing) (sym is)))
+            (λ y e. let is = same_Some (first_try call) y e in let asked = put_same h.phase l (Asked n) in (
+              (λ z. absurd (cc)),
+              ap (λ (t : Current). t.call) (sym is) ∙ ap plain (sym (put_same h.call l called)),
+              ap (λ (t : Current). t.attempt) (sym is) ∙ ap (λ (z : CallRec). z.id.attempt) (sym (put_same h.call l called)),
+              subst (λ (t : Current). IsListed config.nodes (h'.phase l) t.listing) is (λ k dir e. let wrong : Asked n ≡ Tells (Lists k dir) = sym asked ∙ e in absurd (cc)),
+            ))
             x)
             (λ m ne. heard_other config h.call h'.call h.phase h'.phase m (w.clients m) (put_other h.phase l (Asked n) m ne) (put_other h.call l called m ne) (s.heard m));
+        kept = keeping_put w.commits w.clients l new (λ y e. subst (λ (t : Current). AreKept c.table w.commits t.listing) (same_Some (first_try call) y e) tt) s.kept;
         placed = s.placed;
         beside = beside_at_client config w.nodes w.coord h l h'.call h'.since h'.phase s.good.operation.running (λ at. subst (IsHeld 255) idle at) (λ e. let wrong : Idle ≡ Runs = sym idle ∙ e in absurd (cc))
             (λ i p e. let wrong : Asked n ≡ Plans i p = sym (put_same h.phase l (Asked n)) ∙ e in absurd (cc)) (λ m ne. (put_other h.phase l (Asked n) m ne, put_other h.call l called m ne)) s.beside;

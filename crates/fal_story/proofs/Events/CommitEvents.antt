@@ -69,6 +69,7 @@ counts config w n h e p operation dir there other s fit at is =
       operation = (omega arith, λ _. told_of config v n dir v.op.work comes.1 s.good);
       bars = tt;
       knowing = tt;
+      listings = tt;
     } in
     let mine : IsFine config (view_in config w n (begun node) h) (Node 255) (length w.commits + 0) (count_told node.rows node.number operation dir) =
     subst (λ m. IsFine config (view_in config w n (begun node) h) (Node 255) (length w.commits + 0) (message.Counted operation m number)) (sym (s.placed n).number)
@@ -126,6 +127,7 @@ commits config w n h e p operation updates there other s fit at is =
       items = start.items;
       others_items = start.others_items;
       heard = start.heard;
+      kept = start.kept;
       placed = record { number = placed.number; limit = placed.limit; blocked = placed.blocked; tidy = placed.tidy };
       others_placed = start.others_placed;
     } in
@@ -135,6 +137,7 @@ commits config w n h e p operation updates there other s fit at is =
       operation = (omega arith, λ _. subst (λ (d : Doing). ToldDone d (put v.op.shut n None n)) (sym comes.1.1) (put_same v.op.shut n None));
       bars = tt;
       knowing = tt;
+      listings = tt;
     } in
     let mine : IsFine config (view_in config w n k later) (Node 255) (length w.commits + 0) (message.Done operation node.number) =
     subst (λ m. IsFine config (view_in config w n k later) (Node 255) (length w.commits + 0) (message.Done operation m)) (sym placed.number)

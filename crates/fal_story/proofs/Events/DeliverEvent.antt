@@ -10,7 +10,6 @@ use Rattle.fal_base.specs.declared.call.Config.{Config}
 use Rattle.fal_base.specs.declared.event.Actor.{Actor}
 use Rattle.fal_base.specs.declared.event.Actor.TheVariants.{Client, Node, Coord}
 use Rattle.fal_base.specs.declared.event.Envelope.{Envelope}
-use Rattle.fal_base.specs.declared.key.Key.{Key}
 use Rattle.fal_exec.specs.RowCall.{row_names}
 use Rattle.fal_node.specs.declared.event.NodeEvent.TheVariants as node
 use Rattle.fal_node.specs.declared.item.Item.{Item}
@@ -34,7 +33,7 @@ use Rattle.fal_story.proofs.Events.InstallEvent.{install_event}
 use Rattle.fal_story.proofs.Events.LockEvents.{lock_event}
 use Rattle.fal_story.proofs.Events.HeldCalls.{others_held, heard_moves, held_comes}
 use Rattle.fal_story.proofs.Events.InStep.{at_seat, view_begun, Ends, sent_more, view_in, begins, ends}
-use Rattle.fal_story.proofs.Events.Shows.{Ghost, Shows, IsTidy, view_of, taken_of, post_of, posts_of, calls_in}
+use Rattle.fal_story.proofs.Events.Shows.{Ghost, Shows, IsTidy, is_lock, view_of, taken_of, post_of, posts_of, calls_in}
 use Rattle.fal_story.proofs.Good.{Good}
 use Rattle.fal_story.proofs.Lists.Each.{each_join}
 use Rattle.fal_story.proofs.Lists.Grown.{put_all, slice_get_front}
@@ -78,7 +77,7 @@ takes config w n h e p c other s fit at newer rows tidy =
     } in
     let waiter : WaitingCall = record { ticket = node.waiting.tickets; call = c; fetch = None } in
     let was : IsFor n (h.phase l) = subst (IsFor n) (sym asked.1) refl in
-    let freed : (i : ℕ) → IsFreed n (h.phase i) (later.phase i) = put_all (λ i q. IsFreed n (h.phase i) q) h.phase l (Waits n None) (inr (was, (λ z. cc), (λ m x z. cc))) (λ i _. inl refl) in
+    let freed : (i : ℕ) → IsFreed n (h.phase i) (later.phase i) = put_all (λ i q. IsFreed n (h.phase i) q) h.phase l (Waits n None) (inr (was, (λ z. cc), (λ m x z. cc), tt)) (λ i _. inl refl) in
     let moves = freed_moves n h.phase later.phase freed in
     let placed = s.placed n in (
       later,
@@ -91,6 +90,7 @@ takes config w n h e p c other s fit at newer rows tidy =
             items = sent_more (posts_of w.envelopes) [] n node.items (s.items n);
             others_items = λ m _. s.items m;
             heard = heard_moves config w n h.call h.phase later.phase moves s.heard;
+            kept = s.kept;
             placed = record { number = placed.number; limit = placed.limit; blocked = placed.blocked; tidy = tidy };
             others_placed = λ m _. s.placed m;
           }),
@@ -111,25 +111,27 @@ call_event config w n h e p c other s fit at =
       | false ↦ λ _. stays config w n h other s fit
     ] refl
 
--- ---- a question of a fetch, which becomes an item
+-- ---- a question, which becomes an item
 
-ask_event : (config : Config) (w : World) (n : ℕ) (h : Ghost) (e p asker number : ℕ) (key : Key) → n ≢ 255 → Shows config w h → AllFit [] → IsPosted (posts_of w.envelopes) e (Node n) p (message.FetchAsk asker number key)
-    → Ends config w n (begun (with_item (w.nodes n) (message.FetchAsk asker number key)))
+-- a record that is kept is the next item, and no Lock or Block
+kept_event : (config : Config) (w : World) (n : ℕ) (h : Ghost) (e p : ℕ) (m : Message) → n ≢ 255 → Shows config w h → AllFit [] → IsPosted (posts_of w.envelopes) e (Node n) p m → is_lock m ≡ false
+    → Ends config w n (begun (with_item (w.nodes n) m))
 unfolding with_item
-ask_event config w n h e p asker number key other s fit at =
+kept_event config w n h e p m other s fit at off =
     let node = w.nodes n in
     let start = begins config w n h other s in
-    let item : Item = record { number = node.items_numbered; message = message.FetchAsk asker number key } in
-    let k = begun (with_item node (message.FetchAsk asker number key)) in
+    let item : Item = record { number = node.items_numbered; message = m } in
+    let k = begun (with_item node m) in
     let placed = s.placed n in (
       h,
-      ends config w n k h other fit (beside_still config w.nodes w.coord h n k.node (locks_more node.items item refl) refl refl refl s.beside) (record {
+      ends config w n k h other fit (beside_still config w.nodes w.coord h n k.node (locks_more node.items item off) refl refl refl s.beside) (record {
         good = start.good;
         here = start.here;
         others = start.others;
         items = each_join _ node.items (item ∷ []) start.items ((e, (p, slice_get_front (posts_of w.envelopes) [] e _ at)), tt);
         others_items = start.others_items;
         heard = start.heard;
+        kept = start.kept;
         placed = record { number = placed.number; limit = placed.limit; blocked = placed.blocked; tidy = placed.tidy };
         others_placed = start.others_placed;
       }),
@@ -141,14 +143,14 @@ message_event : (config : Config) (w : World) (n : ℕ) (h : Ghost) (e p : ℕ) 
 message_event config w n h e p (message.Call call) there other s at fit = call_event config w n h e p call other s fit at
 message_event config w n h e p (message.FetchAsk asker number key) there other s at fit =
     elim (is_asker (w.nodes n).table.nodes asker) as (λ b. Ends config w n (begun (cond b (with_item (w.nodes n) (message.FetchAsk asker number key)) (w.nodes n)))) [
-      | true ↦ ask_event config w n h e p asker number key other s fit at
+      | true ↦ kept_event config w n h e p (message.FetchAsk asker number key) other s fit at refl
       | false ↦ stays config w n h other s fit
     ]
 message_event config w n h e p (message.FetchGot number key what) there other s at fit = got_event config w n h e p number key what there other s at fit
 message_event config w n h e p (message.Reply id reply) there other s at fit = stays config w n h other s fit
 message_event config w n h e p (message.Stale id old new changes) there other s at fit = stays config w n h other s fit
 message_event config w n h e p (message.Opened id dir) there other s at fit = stays config w n h other s fit
-message_event config w n h e p (message.ListAsk id version dir) there other s at fit = stays config w n h other s fit
+message_event config w n h e p (message.ListAsk id version dir) there other s at fit = kept_event config w n h e p (message.ListAsk id version dir) other s fit at refl
 message_event config w n h e p (message.ListPart id from names) there other s at fit = stays config w n h other s fit
 message_event config w n h e p (message.Lock op keys) there other s at fit = lock_event config w n h e p op keys other s fit at
 message_event config w n h e p (message.Locked op from rows) there other s at fit = stays config w n h other s fit

@@ -96,6 +96,7 @@ exec_ends config w n number k h later batch xs back other shown found fit s runn
         items = s.step.items;
         others_items = s.step.others_items;
         heard = s.step.heard;
+        kept = s.step.kept;
         placed = s.step.placed;
         others_placed = s.step.others_placed;
       }),
@@ -118,6 +119,7 @@ batch_event config w n number h batch few below other s is fresh fit =
         items = start.items;
         others_items = start.others_items;
         heard = start.heard;
+        kept = start.kept;
         placed = record { number = placed.number; limit = placed.limit; blocked = placed.blocked; tidy = placed.tidy };
         others_placed = start.others_placed;
       };

@@ -13,7 +13,7 @@ use Rattle.fal_wait.specs.Lists.{without_first}
 use Rattle.fal_wire.specs.declared.message.Message.{Message}
 use Rattle.fal_story.proofs.Events.Besides.{StaysThere, beside_stepped, holds_kept}
 use Rattle.fal_story.proofs.Events.Doing.{work_of}
-use Rattle.fal_story.proofs.Events.HeldCalls.{MovesAt, one_node}
+use Rattle.fal_story.proofs.Events.HeldCalls.{AsksNone, MovesAt, one_node}
 use Rattle.fal_story.proofs.Events.InStep.{at_seat}
 use Rattle.fal_story.proofs.Events.Sends.{same_item}
 use Rattle.fal_story.proofs.Events.Shows.{Ghost, Beside, is_lock, listed_of, locks_in, before_in}
@@ -34,10 +34,10 @@ seat_kept f own n x other same = sym (put_back (put f 255 own) n) ∙ ap (put (p
 
 -- a call stays where it is, or was at the node and goes on to another place, where it is not planned
 abbrev pub IsFreed : ℕ → Phase → Phase → Type 0
-IsFreed n p q = (q ≡ p) ⊎ (IsFor n p × (q ≢ Idle) × ((m : ℕ) (x : BatchCall) → q ≢ Plans m x))
+IsFreed n p q = (q ≡ p) ⊎ (IsFor n p × (q ≢ Idle) × ((m : ℕ) (x : BatchCall) → q ≢ Plans m x) × AsksNone q)
 
 pub freed_moves : (n : ℕ) (phase later : ℕ → Phase) → ((l : ℕ) → IsFreed n (phase l) (later l)) → MovesAt n phase later
-freed_moves n phase later freed l = ⊎_elim (λ same. inl same) (λ x. inr (x.0, x.1)) (freed l)
+freed_moves n phase later freed l = ⊎_elim (λ same. inl same) (λ x. inr (x.0, x.1, x.3)) (freed l)
 
 -- a call that is planned was planned
 freed_plans : (n m : ℕ) (p q : Phase) (x : BatchCall) → IsFreed n p q → q ≡ Plans m x → p ≡ Plans m x

@@ -36,7 +36,7 @@ use Rattle.fal_wire.specs.Messages.{Fits}
 use Rattle.fal_story.proofs.Events.Besides.{beside_still}
 use Rattle.fal_story.proofs.Events.Doing.{awaited}
 use Rattle.fal_story.proofs.Events.Freed.{IsFreed, freed_moves, beside_freed, seat_kept}
-use Rattle.fal_story.proofs.Events.HeldCalls.{others_held, heard_moves, is_on, moved_off, off_all, on_is, held_freed, held_left}
+use Rattle.fal_story.proofs.Events.HeldCalls.{AsksNone, others_held, heard_moves, is_on, moved_off, off_all, on_is, held_freed, held_left}
 use Rattle.fal_story.proofs.Events.InStep.{at_seat, view_begun, Ends, letter_post, letter_posts, sent_more, view_in, begins, ends}
 use Rattle.fal_story.proofs.Events.Shows.{Ghost, Shows, Held, WaitsAt, lane_of, view_of, fetches_of, posts_of, askings_of, calls_in}
 use Rattle.fal_story.proofs.Families.Asking.{IsOpened}
@@ -137,9 +137,9 @@ off_cases n number q p = elim (is_on n number p) as (λ b. is_on n number p ≡ 
   | false ↦ λ _. inl refl
 ] refl
 
-off_freed : (n number : ℕ) (q : Phase) (phase : ℕ → Phase) → q ≢ Idle → ((m : ℕ) (x : BatchCall) → q ≢ Plans m x) → (l : ℕ) → IsFreed n (phase l) (off_all n number q phase l)
-off_freed n number q phase some unplanned l =
-    ⊎_elim (λ same. inl same) (λ y. inr (subst (IsFor n) (sym y.0) refl, (λ idle. some (sym y.1 ∙ idle)), (λ m x is. unplanned m x (sym y.1 ∙ is)))) (off_cases n number q (phase l))
+off_freed : (n number : ℕ) (q : Phase) (phase : ℕ → Phase) → q ≢ Idle → ((m : ℕ) (x : BatchCall) → q ≢ Plans m x) → AsksNone q → (l : ℕ) → IsFreed n (phase l) (off_all n number q phase l)
+off_freed n number q phase some unplanned none l =
+    ⊎_elim (λ same. inl same) (λ y. inr (subst (IsFor n) (sym y.0) refl, (λ idle. some (sym y.1 ∙ idle)), (λ m x is. unplanned m x (sym y.1 ∙ is)), subst AsksNone (sym y.1) none)) (off_cases n number q (phase l))
 
 off_may : (config : Config) (v : View) (n number : ℕ) (q : Phase) → ((l : ℕ) → v.phase l ≡ Waits n (Some number) → MayMove config v l (v.phase l) q (v.op.crossed l))
     → (l : ℕ) → ((off_all n number q v.phase l ≡ v.phase l) × (v.op.crossed l ≡ v.op.crossed l)) ⊎ MayMove config v l (v.phase l) (off_all n number q v.phase l) (v.op.crossed l)
@@ -174,7 +174,7 @@ learns config w n h e p dentry f there other s fit a at =
       taken = seat_kept (λ m. (w.nodes m).waiting.last) w.coord.last n settled.last other (settled_last list f.number) i;
       phase = later.phase;
     } in
-    let freed = off_freed n f.number q h.phase (λ z. cc) (λ m x z. cc) in
+    let freed = off_freed n f.number q h.phase (λ z. cc) (λ m x z. cc) tt in
     let moves = freed_moves n h.phase later.phase freed in
     let beside = beside_freed config w.nodes w.coord h later n k.node other s.good.operation.running freed (λ l. refl) (λ l. refl) (λ m _. refl) (s.beside.queues n) refl refl refl s.beside in
     let placed = s.placed n in (
@@ -186,6 +186,7 @@ learns config w n h e p dentry f there other s fit a at =
         items = sent_more (posts_of w.envelopes) [] n node.items (s.items n);
         others_items = λ m _. s.items m;
         heard = heard_moves config w n h.call h.phase later.phase moves s.heard;
+        kept = s.kept;
         placed = record { number = placed.number; limit = placed.limit; blocked = placed.blocked; tidy = tidy_settle list f.number placed.tidy };
         others_placed = λ m _. s.placed m;
       }),
@@ -227,7 +228,7 @@ told_good : (config : Config) (v : View) (p : ℕ) (reply : Reply) (ws : List Wa
 told_good config v p reply [] fine g = subst (λ posts. Good config (record v { posts = posts })) (sym (append-nil v.posts)) g
 told_good config v p reply (w ∷ ws) fine g =
     let x = post (Client (lane_of w)) p (message.Reply w.call.id reply) in
-    let one = posted_good config v (Client (lane_of w)) p (message.Reply w.call.id reply) (record { asking = tt; records = (lane_of w, refl, fine.0); operation = tt; bars = tt; knowing = tt }) g in
+    let one = posted_good config v (Client (lane_of w)) p (message.Reply w.call.id reply) (record { asking = tt; records = (lane_of w, refl, fine.0); operation = tt; bars = tt; knowing = tt; listings = tt }) g in
     subst (λ posts. Good config (record v { posts = posts })) (append_assoc v.posts (x ∷ []) (told p reply ws)) (told_good config (record v { posts = v.posts ++ x ∷ [] }) p reply ws fine.1 one)
 
 -- the answer to a waiter is fine once it is done
@@ -275,7 +276,7 @@ leaves config w n h p errno f there other s a past stops fit =
       posts = posts_of w.envelopes ++ posts i;
       phase = later.phase;
     } in
-    let freed = off_freed n f.number q h.phase (λ z. cc) (λ m x z. cc) in
+    let freed = off_freed n f.number q h.phase (λ z. cc) (λ m x z. cc) tt in
     let moves = freed_moves n h.phase later.phase freed in
     let beside = beside_freed config w.nodes w.coord h later n k.node other s.good.operation.running freed (λ l. refl) (λ l. refl) (λ m _. refl) (s.beside.queues n) refl refl refl s.beside in
     let placed = s.placed n in (
@@ -287,6 +288,7 @@ leaves config w n h p errno f there other s a past stops fit =
         items = sent_more (posts_of w.envelopes) (letter_posts (length w.commits) k.sent) n node.items (s.items n);
         others_items = λ m _. s.items m;
         heard = heard_moves config w n h.call h.phase later.phase moves s.heard;
+        kept = s.kept;
         placed = record { number = placed.number; limit = placed.limit; blocked = placed.blocked; tidy = tidy_left list f placed.tidy a.pending };
         others_placed = λ m _. s.placed m;
       }),

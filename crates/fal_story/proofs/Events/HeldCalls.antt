@@ -1,20 +1,21 @@
 -- What nodes keep, and what clients know, while calls move.
-use Rattle.std.proofs.Common.{◌≡◌, ◌≢◌, ◌⊎◌, inl, inr, ⊎_elim, ℕ, ◌==◌, Bool, true, false, not, ◌&&◌, cond, List, [], ◌∷◌, ◌++◌, map, filter, None, is_some, refl, sym, ap, subst, ◌∙◌, append_assoc, eq-eqb}
+use Rattle.std.proofs.Common.{◌≡◌, ◌≢◌, ◌⊎◌, inl, inr, ⊎_elim, ℕ, ◌==◌, Bool, true, false, not, ◌&&◌, cond, List, [], ◌∷◌, ◌++◌, map, filter, Option, Some, None, is_some, refl, sym, ap, subst, ◌∙◌, append_assoc, eq-eqb}
 use mathlib.Core.Path.{fun_ext}
 use Rattle.std.specs.Prelude.{if◌then◌else◌, IsTrue}
 use Rattle.fal_base.specs.declared.call.CallRec.{CallRec}
 use Rattle.fal_base.specs.declared.call.Config.{Config}
+use Rattle.fal_client.specs.declared.current.Listing.{Listing}
 use Rattle.fal_exec.specs.RowCall.{row_names}
 use Rattle.fal_node.specs.declared.batch.Batch.{Batch}
 use Rattle.fal_run.specs.declared.call.BatchCall.{BatchCall}
 use Rattle.fal_node.specs.Exec.{as_executed}
 use Rattle.fal_wait.specs.declared.waiting_call.WaitingCall.{WaitingCall}
 use Rattle.fal_wait.specs.Waiting.{off_fetch, waits_on}
-use Rattle.fal_story.proofs.Events.Shows.{Held, Heard, WaitsAt, PlannedAt, lane_of, planned_lane, pending_calls, calls_in}
+use Rattle.fal_story.proofs.Events.Shows.{Held, Heard, IsListed, WaitsAt, PlannedAt, lane_of, planned_lane, pending_calls, calls_in}
 use Rattle.fal_story.proofs.Lists.Each.{Apart, each_weaker, each_both, each_without, each_middle, each_join, apart_without, apart_others}
 use Rattle.fal_story.proofs.Lists.Grown.{put_all, put_same, put_other}
 use Rattle.fal_story.proofs.Lists.Members.{each_map, each_filter, apart_map, apart_filter, apart_push}
-use Rattle.fal_story.proofs.Phase.{Phase, Idle, Asked, Waits, Plans, Tells, IsFor, IsHeld, Runs, Told}
+use Rattle.fal_story.proofs.Phase.{Phase, Idle, Asked, Waits, Plans, Tells, Lists, IsFor, IsHeld, Runs, Told}
 use Rattle.fal_story.proofs.Steps.Moved.{held_for}
 use Rattle.fal_story.specs.World.{World, put}
 
@@ -49,9 +50,19 @@ held_frame call phase later n ws ps same h = record {
   planned_apart = h.planned_apart;
 }
 
+-- the client of the call does not ask for parts
+abbrev pub AsksNone : Phase → Type 0
+AsksNone (Tells (Lists point dir)) = ⊥
+AsksNone other = Unit {0}
+
+-- that of a call for a node does not
+pub for_asks_none : (n : ℕ) (p : Phase) → IsFor n p → AsksNone p
+for_asks_none n (Tells answer) h = absurd h
+for_asks_none n other h = tt
+
 -- only calls at one node, or on their way to it, move
 abbrev pub MovesAt : ℕ → (ℕ → Phase) → (ℕ → Phase) → Type 0
-MovesAt n phase later = (l : ℕ) → (later l ≡ phase l) ⊎ (IsFor n (phase l) × (later l ≢ Idle))
+MovesAt n phase later = (l : ℕ) → (later l ≡ phase l) ⊎ (IsFor n (phase l) × (later l ≢ Idle) × AsksNone (later l))
 
 pub others_held : (w : World) (n : ℕ) (call : ℕ → CallRec) (phase later : ℕ → Phase) → MovesAt n phase later
     → ((m : ℕ) → m ≢ n → Held call phase m (w.nodes m).waiting.calls (calls_in (w.nodes m).batches)) → (m : ℕ) → m ≢ n → Held call later m (w.nodes m).waiting.calls (calls_in (w.nodes m).batches)
@@ -60,19 +71,33 @@ others_held w n call phase later moves h m ne =
     (λ l at. ⊎_elim (λ same. same) (λ y. absurd (ne (one_node m n (phase l) (held_for m (phase l) at) y.0))) (moves l))
     (h m ne)
 
+-- no listing is under way before and after
+pub listed_none : (nodes : ℕ) (p q : Phase) (listing : Option Listing) → AsksNone p → AsksNone q → IsListed nodes p listing → IsListed nodes q listing
+listed_none nodes p q None was is listed = λ k dir e. subst AsksNone e is
+listed_none nodes p q (Some listing) was is listed = absurd (subst AsksNone listed.0 was)
+
+-- clients know of their calls where those move
 pub heard_moves : (config : Config) (w : World) (n : ℕ) (call : ℕ → CallRec) (phase later : ℕ → Phase) → MovesAt n phase later → ((l : ℕ) → Heard config call phase l (w.clients l)) → (l : ℕ) → Heard config call later l (w.clients l)
 heard_moves config w n call phase later moves h l = record {
   lane = (h l).lane;
   nodes = (h l).nodes;
   left = (h l).left;
   none = λ e. let idle = (h l).none e in ⊎_elim (λ same. same ∙ idle) (λ y. absurd (for_not_idle n (phase l) y.0 idle)) (moves l);
-  some = λ current e. let s = (h l).some current e in (λ idle. ⊎_elim (λ same. s.0 (sym same ∙ idle)) (λ y. y.1 idle) (moves l), s.1, s.2, s.3);
+  some = λ current e. let s = (h l).some current e in (
+    λ idle. ⊎_elim (λ same. s.0 (sym same ∙ idle)) (λ y. y.1 idle) (moves l),
+    s.1,
+    s.2,
+    ⊎_elim
+        (λ same. subst (λ p. IsListed config.nodes p current.listing) (sym same) s.3)
+        (λ y. listed_none config.nodes (phase l) (later l) current.listing (for_asks_none n (phase l) y.0) y.2 s.3)
+        (moves l),
+  );
 }
 
 -- ---- a call comes
 
-pub put_moves : (n l : ℕ) (phase : ℕ → Phase) (q : Phase) → IsFor n (phase l) → q ≢ Idle → MovesAt n phase (put phase l q)
-put_moves n l phase q at some m = put_all (λ i p. (p ≡ phase i) ⊎ (IsFor n (phase i) × (p ≢ Idle))) phase l q (inr (at, some)) (λ i _. inl refl) m
+pub put_moves : (n l : ℕ) (phase : ℕ → Phase) (q : Phase) → IsFor n (phase l) → q ≢ Idle → AsksNone q → MovesAt n phase (put phase l q)
+put_moves n l phase q at some none m = put_all (λ i p. (p ≡ phase i) ⊎ (IsFor n (phase i) × (p ≢ Idle) × AsksNone p)) phase l q (inr (at, some, none)) (λ i _. inl refl) m
 
 pub held_comes : (call : ℕ → CallRec) (phase : ℕ → Phase) (n : ℕ) (ws : List WaitingCall) (w : WaitingCall) (ps : List BatchCall) → n ≢ 255 → (IsHeld n (phase (lane_of w)) → ⊥) → w.call ≡ call (lane_of w) → IsTrue (is_some (row_names w.call.op)) → Held call phase n ws ps
     → Held call (put phase (lane_of w) (Waits n w.fetch)) n (ws ++ w ∷ []) ps

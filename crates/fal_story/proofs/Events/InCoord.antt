@@ -10,6 +10,7 @@ use Rattle.fal_wire.specs.Letters.{output_of}
 use Rattle.fal_wire.specs.Messages.{Fits}
 use Rattle.fal_story.proofs.Events.InStep.{letter_posts, posts_sent, sent_more}
 use Rattle.fal_story.proofs.Events.Shows.{operating, replicas_of, fetches_of, opened_of, taken_of, shut_of, last_of, mapped, Ghost, Shows, Beside, Held, Heard, AreSent, view_of, posts_of, calls_in, tables_of, barred_in}
+use Rattle.fal_story.proofs.Listing.Keeping.{keeping_more}
 use Rattle.fal_story.proofs.Good.{Good}
 use Rattle.fal_story.proofs.View.{View}
 use Rattle.fal_story.specs.World.{World, posted, entries_of, envelopes_of}
@@ -65,6 +66,7 @@ coord_ends config w h k later fit shown s =
       held = s.held;
       items = λ n. subst (λ posts. AreSent posts n (w.nodes n).items) (sym sent) (sent_more (posts_of w.envelopes) (letter_posts (length w.commits) k.sent) n (w.nodes n).items (shown.items n));
       heard = s.heard;
+      kept = λ l. keeping_more w.commits (commits_of config (entries_of (length w.commits) k.notes)) (w.clients l) (shown.kept l);
       placed = shown.placed;
       beside = s.beside;
     }

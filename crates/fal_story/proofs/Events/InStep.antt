@@ -21,7 +21,8 @@ use Rattle.fal_wire.specs.Messages.{Fits}
 use Rattle.fal_wire.proofs.ReadingLaws.{spelled_reads}
 use Rattle.fal_wire.specs.Letters.{output_of}
 use Rattle.fal_story.proofs.Events.Doing.{awaited}
-use Rattle.fal_story.proofs.Events.Shows.{operating, replicas_of, fetches_of, opened_of, taken_of, shut_of, last_of, mapped, Ghost, Shows, Beside, Held, Heard, IsPlaced, AreSent, view_of, post_of, posts_of, askings_of, calls_in, tables_of, barred_of, barred_in}
+use Rattle.fal_story.proofs.Events.Shows.{operating, replicas_of, fetches_of, opened_of, taken_of, shut_of, last_of, mapped, Ghost, Shows, Beside, Held, Heard, IsKeeping, IsPlaced, AreSent, view_of, post_of, posts_of, askings_of, calls_in, tables_of, barred_of, barred_in}
+use Rattle.fal_story.proofs.Listing.Keeping.{keeping_more}
 use Rattle.fal_story.proofs.Good.{Good}
 use Rattle.fal_story.proofs.Lists.Each.{each_weaker}
 use Rattle.fal_story.proofs.Lists.Grown.{put_all, put_other, put_swap, at_put, put_back, slice_get_front}
@@ -63,6 +64,7 @@ pub record InStep (config : Config) (w : World) (n : ℕ) (k : Work) (h : Ghost)
   pub items : AreSent (posts_of w.envelopes ++ letter_posts (length w.commits) k.sent) n k.node.items
   pub others_items : (m : ℕ) → m ≢ n → AreSent (posts_of w.envelopes) m (w.nodes m).items
   pub heard : (l : ℕ) → Heard config h.call h.phase l (w.clients l)
+  pub kept : (l : ℕ) → IsKeeping w.commits (w.clients l)
   pub placed : IsPlaced config n k.node
   pub others_placed : (m : ℕ) → m ≢ n → IsPlaced config m (w.nodes m)
 
@@ -112,6 +114,7 @@ begins config w n h other s =
       items = sent_more (posts_of w.envelopes) [] n (w.nodes n).items (s.items n);
       others_items = λ m _. s.items m;
       heard = s.heard;
+      kept = s.kept;
       placed = s.placed n;
       others_placed = λ m _. s.placed m;
     }
@@ -144,6 +147,7 @@ ends config w n k h other fit beside s =
           (subst (λ posts. AreSent posts n k.node.items) (sym sent) s.items)
           (λ m apart. subst (λ posts. AreSent posts m (w.nodes m).items) (sym sent) (sent_more (posts_of w.envelopes) (letter_posts (length w.commits) k.sent) m (w.nodes m).items (s.others_items m apart)));
       heard = s.heard;
+      kept = λ l. keeping_more w.commits (commits_of config (entries_of (length w.commits) k.notes)) (w.clients l) (s.kept l);
       placed = put_all (λ m x. IsPlaced config m x) w.nodes n k.node s.placed s.others_placed;
       beside = beside;
     }

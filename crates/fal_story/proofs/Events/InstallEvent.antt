@@ -87,6 +87,7 @@ installs config w n h e p operation version rule rows name other s fit at is =
       items = start.items;
       others_items = start.others_items;
       heard = start.heard;
+      kept = start.kept;
       placed = record { number = placed.number; limit = placed.limit; blocked = tt; tidy = placed.tidy };
       others_placed = start.others_placed;
     } in
@@ -97,6 +98,7 @@ installs config w n h e p operation version rule rows name other s fit at is =
       operation = tt;
       bars = (omega arith, λ _. subst (λ (d : Doing). ToldInstalled d (put v.map.barred n None n)) (sym lands.is) (put_same v.map.barred n None));
       knowing = tt;
+      listings = tt;
     } in
     let mine : IsFine config (view_in config w n k later) (Node 255) (length w.commits + 0) (message.Installed operation node.number) =
     subst (λ m. IsFine config (view_in config w n k later) (Node 255) (length w.commits + 0) (message.Installed operation m)) (sym placed.number)

@@ -69,6 +69,7 @@ operation_queues config w n h e p operation m other s fit at lock is none good =
             items = each_join _ node.items (item ∷ []) start.items ((e, (p, slice_get_front (posts_of w.envelopes) [] e _ at)), tt);
             others_items = start.others_items;
             heard = start.heard;
+            kept = start.kept;
             placed = record { number = placed.number; limit = placed.limit; blocked = placed.blocked; tidy = placed.tidy };
             others_placed = start.others_placed;
           }),

@@ -24,7 +24,7 @@ use Rattle.fal_story.proofs.Drain.Actors.{owner_there}
 use Rattle.fal_story.proofs.Good.{Good}
 use Rattle.fal_story.proofs.Lists.Grown.{tells, unequal, put_back}
 use Rattle.fal_story.proofs.View.{View}
-use Rattle.fal_story.proofs.Phase.{Idle}
+use Rattle.fal_story.proofs.Phase.{Idle, Tells, Opens, Lists}
 use Rattle.fal_story.proofs.Ranges.Bounds.{IsRanged, IsNodeRanged, IsNodeCounted}
 use Rattle.fal_story.proofs.Ranges.CoordBounds.{IsCoordRanged}
 use Rattle.fal_story.proofs.Ranges.RowRanges.{AreRowsRanged}
@@ -118,7 +118,7 @@ good_at_first config cluster = record {
   lanes = record {
     right = λ l k reply is. absurd (cc);
     uncommitted = λ l i c is there by. absurd (is);
-    under_way = record { started = λ l is. refl; served = λ l is. absurd (is refl); fits = λ l is. absurd (is refl) };
+    under_way = record { started = λ l is. refl; fits = λ l is. absurd (is refl) };
     routed = λ l n is. absurd is;
   };
   script = record {
@@ -139,7 +139,7 @@ good_at_first config cluster = record {
       unanswered = λ l i k reply is there. absurd (cc);
       uncommitted = λ l i ino is there. absurd (cc);
       unplaced = λ l i version is there. absurd (cc);
-      plain = λ i l s ino point is. absurd (cc);
+      unopened = λ l i ino point is there. absurd (cc);
     };
     placements = record {
       same = refl;
@@ -188,6 +188,13 @@ good_at_first config cluster = record {
     version = λ l busy. absurd (busy refl);
     told = λ l old new e. absurd (cc);
     stale = λ e p l id old new changes posted. absurd (cc);
+    asks = λ e p n id version dir posted. absurd (cc);
+  };
+  listings = record {
+    opened = λ l k dir is. absurd (⊎_elim (λ e. let no : Idle ≡ Tells (Opens k dir) = e in cc) (λ e. let no : Idle ≡ Tells (Lists k dir) = e in cc) is);
+    noted = λ l k dir e. absurd (cc);
+    parts = λ e l p n id names posted. absurd (cc);
+    listed = λ j lane seq e names call is named. absurd (cc);
   };
 }
 
@@ -210,6 +217,7 @@ opening_shows config cluster = record {
   held = λ n. record { waiters = tt; planned = tt; waiters_apart = tt; planned_apart = tt };
   items = λ n. tt;
   heard = λ l. record { lane = refl; nodes = refl; left = λ k. left_at_start config l k; none = λ is. refl; some = λ current is. absurd (cc) };
+  kept = λ l current is. absurd (cc);
   placed = λ n. placed_at_start config n;
   beside = record {
     queues = λ n. refl;
@@ -250,7 +258,7 @@ coord_ranged_at_start nodes = record { waiting = tt; replica = λ key dentry is.
 
 pub opening_ranged : (config : Config) → IsRanged (opening_world config)
 opening_ranged config = record {
-  clients = λ l. omega arith;
+  clients = λ l. record { tried = omega arith; dir = λ current dir busy at. absurd (cc) };
   nodes = λ n. node_ranged_at_start n config.nodes config.batch;
   counted = λ n. node_counted_at_start n config.nodes config.batch;
   coord = coord_ranged_at_start config.nodes;

@@ -36,6 +36,7 @@ sends config w n k h ws ps letter fine s =
           (sent_more (posts_of w.envelopes ++ letter_posts (length w.commits) k.sent) (letter_post (length w.commits) letter ∷ []) n k.node.items s.items);
       others_items = s.others_items;
       heard = s.heard;
+      kept = s.kept;
       placed = s.placed;
       others_placed = s.others_placed;
     }

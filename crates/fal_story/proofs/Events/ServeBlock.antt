@@ -194,6 +194,7 @@ block_served config w n h item operation name there other s sorted found is can 
             items = each_without_first _ test node.items (sent_more (posts_of w.envelopes) (letter_posts (length w.commits) k.sent) n node.items (s.items n));
             others_items = start.others_items;
             heard = start.heard;
+            kept = start.kept;
             placed = record { number = placed.number; limit = placed.limit; blocked = (name, refl, named); tidy = placed.tidy };
             others_placed = start.others_placed;
           }),

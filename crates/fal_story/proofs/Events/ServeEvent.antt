@@ -42,6 +42,7 @@ use Rattle.fal_story.proofs.Events.Freed.{locks_without}
 use Rattle.fal_story.proofs.Events.InStep.{InStep, Ends, begins, ends, view_begun}
 use Rattle.fal_story.proofs.Events.Sends.{sends, each_found, each_without_first}
 use Rattle.fal_story.proofs.Events.ServeBlock.{block_served}
+use Rattle.fal_story.proofs.Listing.ServeList.{listed_ends}
 use Rattle.fal_story.proofs.Events.ServeLock.{lock_served}
 use Rattle.fal_story.proofs.Events.Shows.{Ghost, Shows, Beside, Held, Holds, barred_name, barred_of, is_lock, fetches_of, view_of, posts_of, calls_in, pending_calls}
 use Rattle.fal_story.proofs.Events.Tables.{owner_at, owner_there}
@@ -144,6 +145,7 @@ module _ (config : Config) (w : World) (n : ℕ) (h : Ghost) (e p asker number :
         operation = tt;
         bars = tt;
         knowing = tt;
+        listings = tt;
       })
 
   -- another node asks the owner, as it was asked
@@ -157,6 +159,7 @@ module _ (config : Config) (w : World) (n : ℕ) (h : Ghost) (e p asker number :
         operation = s.good.operation.told e p (Node n) (message.FetchAsk asker number key) sent;
         bars = tt;
         knowing = tt;
+        listings = tt;
       }
 
   fine_served : IsFineLetter (fetch_letter (w.nodes n) asker number key)
@@ -185,6 +188,7 @@ served_in config w n h e p at asker number key there other s sent can =
       items = each_without_first _ (λ item. item.number == at) node.items y.items;
       others_items = y.others_items;
       heard = y.heard;
+      kept = y.kept;
       placed = record { number = y.placed.number; limit = y.placed.limit; blocked = y.placed.blocked; tidy = y.placed.tidy };
       others_placed = y.others_placed;
     }
@@ -226,6 +230,7 @@ served_by : (config : Config) (w : World) (n : ℕ) (h : Ghost) (item : Item) (m
 served_by config w n h item (message.FetchAsk asker number key) below other s sorted there is can fit = told_ends config w n h item asker number key below other s there is can fit
 served_by config w n h item (message.Lock operation keys) below other s sorted there is can fit = locked_ends config w n h item operation keys below other s there is can fit
 served_by config w n h item (message.Block operation name) below other s sorted there is can fit = blocked_ends config w n h item operation name below other s sorted there is can fit
+served_by config w n h item (message.ListAsk id version dir) below other s sorted there is can fit = listed_ends config w n h item id version dir below other s sorted there is can fit
 served_by config w n h item others below other s sorted there is can fit = absurd (cc)
 
 -- an item that is found has the number
@@ -321,6 +326,7 @@ released_ends config w n number h batch other s there executed fit =
         items = x.items;
         others_items = x.others_items;
         heard = x.heard;
+        kept = x.kept;
         placed = record { number = x.placed.number; limit = x.placed.limit; blocked = x.placed.blocked; tidy = x.placed.tidy };
         others_placed = x.others_placed;
       }),

@@ -28,7 +28,7 @@ use Rattle.fal_wire.specs.declared.message.Message.{Message}
 use Rattle.fal_wire.specs.declared.message.Message.TheVariants as message
 use Rattle.fal_story.proofs.Events.Freed.{IsFreed, freed_moves, beside_freed, lock_listed, locks_gone}
 use Rattle.fal_story.proofs.Events.GotEvent.{AllFit}
-use Rattle.fal_story.proofs.Events.HeldCalls.{heard_moves, others_held}
+use Rattle.fal_story.proofs.Events.HeldCalls.{AsksNone, heard_moves, others_held}
 use Rattle.fal_story.proofs.Events.InStep.{at_seat, view_begun, view_in, letter_posts, sent_more, Ends, ends}
 use Rattle.fal_story.proofs.Events.Shows.{Ghost, Shows, Held, IsTidy, WaitsAt, PlannedAt, lane_of, operating, shut_of, last_of, listed_of, is_lock, view_of, posts_of, calls_in}
 use Rattle.fal_story.proofs.Families.Bars.{Bar}
@@ -75,7 +75,7 @@ freed_cases n (Tells answer) = inl refl
 pub freed_is : (n : ℕ) (p : Phase) → IsFreed n p (freed_at n p)
 freed_is n p = ⊎_elim
     (λ same. inl same)
-    (λ y. inr (held_for n p y.0, (λ idle. let no : Waits n None ≡ Idle = sym y.1 ∙ idle in cc), (λ m x is. let no : Waits n None ≡ Plans m x = sym y.1 ∙ is in cc)))
+    (λ y. inr (held_for n p y.0, (λ idle. let no : Waits n None ≡ Idle = sym y.1 ∙ idle in cc), (λ m x is. let no : Waits n None ≡ Plans m x = sym y.1 ∙ is in cc), subst AsksNone (sym y.1) tt))
     (freed_cases n p)
 
 freed_may : (config : Config) (v : View) (n : ℕ) (l : ℕ) → ((free_all n v.phase l ≡ v.phase l) × (v.op.crossed l ≡ v.op.crossed l)) ⊎ MayMove config v l (v.phase l) (free_all n v.phase l) (v.op.crossed l)
@@ -254,6 +254,7 @@ lock_served config w n h item operation keys there other s found is can fit =
             items = each_without_first _ test node.items (sent_more (posts_of w.envelopes) (letter_posts (length w.commits) k.sent) n node.items (s.items n));
             others_items = λ m _. s.items m;
             heard = heard_moves config w n h.call h.phase later.phase moves s.heard;
+            kept = s.kept;
             placed = record { number = placed.number; limit = placed.limit; blocked = placed.blocked; tidy = tidy_cancel node.waiting placed.tidy };
             others_placed = λ m _. s.placed m;
           }),

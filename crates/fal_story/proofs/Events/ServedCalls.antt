@@ -1,6 +1,6 @@
 -- The calls of a cluster, and to whom each of them goes.
 use Rattle.std.proofs.Common.{◌≡◌, ◌≢◌, ◌∙◌, ℕ, zero, suc, List, [], ◌∷◌, Option, Some, None, refl, sym, ap, subst, arith}
-use Rattle.std.specs.Prelude.{slice_get, IsTrue}
+use Rattle.std.specs.Prelude.{slice_get}
 use Rattle.std.specs.List.{All}
 use Rattle.std.proofs.lemmas.Option.{same_Some}
 use Rattle.fal_base.specs.declared.call.Call.{Call}
@@ -18,7 +18,7 @@ use Rattle.fal_place.specs.Placement.{Placement, route}
 use Rattle.fal_wire.specs.Names.{path_arg_field}
 use Rattle.fal_wire.specs.Ops.{op_field, path_and_mode, path_and_want, path_and_owner, path_and_size, two_paths}
 use Rattle.fal_story.proofs.View.{seat}
-use Rattle.fal_story.specs.Clusters.{IsCluster, IsCall, is_served}
+use Rattle.fal_story.specs.Clusters.{IsCluster, IsCall}
 
 all_at : {A : Type 0} (P : A → Type 0) (xs : List A) (k : ℕ) (y : A) → All P xs → slice_get xs k ≡ Some y → P y
 all_at P [] k y h e = absurd (cc)
@@ -33,7 +33,7 @@ lane_is : (found : Option (List Call)) (s : ℕ) (call : Call) → ((calls : Lis
 lane_is None s call all is = absurd (cc)
 lane_is (Some calls) s call all is = all_of IsCall calls s call (all calls refl) is
 
--- each call of a cluster that may run is one that is served
+-- each call of a cluster that may run is such a one
 pub call_is : (config : Config) (l s : ℕ) (call : Call) → IsCluster config → call_of config l s ≡ Some call → IsCall call
 call_is config l s call cluster is = lane_is (numbered config.lanes l) s call (λ calls e. all_of (λ calls. All IsCall calls) config.lanes l calls cluster.calls e) is
 
@@ -54,21 +54,21 @@ node_seat Coord m other e = absurd (other (same_node (sym e)))
     same_node : {a b : ℕ} → Node a ≡ Node b → a ≡ b
     same_node e = cc
 
--- a call that is served goes to a node, or to the coordinator at its seat
-pub served_at : (table : Placement) (call : Op) → IsTrue (is_served call) → (n : ℕ) × (seat (addressee table call) ≡ Node n)
+-- a call goes to a node, or to the coordinator at its seat
+pub seated_at : (table : Placement) (call : Op) → (n : ℕ) × (seat (addressee table call) ≡ Node n)
 unfolding addressee
-served_at table (op.Mkdir path mode) served = node_at table path
-served_at table (op.Create path mode) served = node_at table path
-served_at table (op.Stat path) served = node_at table path
-served_at table (op.Access path want) served = node_at table path
-served_at table (op.Truncate path size) served = node_at table path
-served_at table (op.Unlink path) served = node_at table path
-served_at table (op.Chmod path mode) served = node_at table path
-served_at table (op.Chown path uid gid) served = node_at table path
-served_at table (op.Rmdir path) served = (255, refl)
-served_at table (op.Rename old new) served = (255, refl)
-served_at table (op.Place name rule) served = (255, refl)
-served_at table other served = absurd (cc)
+seated_at table (op.Mkdir path mode) = node_at table path
+seated_at table (op.Create path mode) = node_at table path
+seated_at table (op.Stat path) = node_at table path
+seated_at table (op.Access path want) = node_at table path
+seated_at table (op.Truncate path size) = node_at table path
+seated_at table (op.Unlink path) = node_at table path
+seated_at table (op.Chmod path mode) = node_at table path
+seated_at table (op.Chown path uid gid) = node_at table path
+seated_at table (op.Rmdir path) = (255, refl)
+seated_at table (op.Rename old new) = (255, refl)
+seated_at table (op.Place name rule) = (255, refl)
+seated_at table (op.List path) = node_at table path
 
 -- a path that a record can hold is a good one
 good_of : (path : PathArg) → path_arg_field.Fits path → fault_of path ≡ None
@@ -77,17 +77,17 @@ good_of (GoodPath names) fits = refl
 good_of (Bad fault raw) fits = absurd fits
 
 -- so a call that a record can hold has good paths
-pub good_path : (o : Op) → IsTrue (is_served o) → op_field.Fits o → bad_path o ≡ None
+pub good_path : (o : Op) → op_field.Fits o → bad_path o ≡ None
 unfolding op_field path_and_mode path_and_want path_and_owner path_and_size two_paths bad_path
-good_path (op.Mkdir path mode) served fits = good_of path fits.0
-good_path (op.Create path mode) served fits = good_of path fits.0
-good_path (op.Stat path) served fits = good_of path fits
-good_path (op.Access path want) served fits = good_of path fits.0
-good_path (op.Chmod path mode) served fits = good_of path fits.0
-good_path (op.Chown path uid gid) served fits = good_of path fits.0
-good_path (op.Truncate path size) served fits = good_of path fits.0
-good_path (op.Unlink path) served fits = good_of path fits
-good_path (op.Rmdir path) served fits = good_of path fits
-good_path (op.Rename old new) served fits = ap (λ f. first_of f (fault_of new)) (good_of old fits.0) ∙ good_of new fits.1
-good_path (op.Place name rule) served fits = refl
-good_path (op.List path) served fits = absurd (cc)
+good_path (op.Mkdir path mode) fits = good_of path fits.0
+good_path (op.Create path mode) fits = good_of path fits.0
+good_path (op.Stat path) fits = good_of path fits
+good_path (op.Access path want) fits = good_of path fits.0
+good_path (op.Chmod path mode) fits = good_of path fits.0
+good_path (op.Chown path uid gid) fits = good_of path fits.0
+good_path (op.Truncate path size) fits = good_of path fits.0
+good_path (op.Unlink path) fits = good_of path fits
+good_path (op.Rmdir path) fits = good_of path fits
+good_path (op.Rename old new) fits = ap (λ f. first_of f (fault_of new)) (good_of old fits.0) ∙ good_of new fits.1
+good_path (op.Place name rule) fits = refl
+good_path (op.List path) fits = good_of path fits

@@ -12,11 +12,14 @@ use Rattle.fal_base.specs.declared.event.Envelope.{Envelope}
 use Rattle.fal_base.specs.Names.{is_name}
 use Rattle.fal_base.specs.Transcript.{call_of}
 use Rattle.fal_client.specs.declared.current.Current.{Current}
+use Rattle.fal_client.specs.declared.current.Listing.{Listing}
+use Rattle.fal_client.specs.Parts.{missing_count}
 use Rattle.fal_client.specs.State.{ClientState}
 use Rattle.fal_base.specs.declared.key.Key.{Key}
 use Rattle.fal_base.specs.declared.op.Op.TheVariants as op
 use Rattle.fal_base.specs.declared.reply.Reply.TheVariants.{Fine}
 use Rattle.fal_base.specs.declared.row.Update.{Update}
+use Rattle.fal_base.specs.Commits.{Commit}
 use Rattle.fal_base.specs.Marks.{Marks}
 use Rattle.fal_coord.specs.declared.stage.Operation.{Operation}
 use Rattle.fal_coord.specs.declared.stage.Stage.{Stage}
@@ -46,7 +49,8 @@ use Rattle.fal_wire.specs.Messages.{reading}
 use Rattle.fal_story.proofs.Events.Doing.{work_of, name_in, rule_in, awaited}
 use Rattle.fal_story.proofs.Good.{Good}
 use Rattle.fal_story.proofs.Lists.Each.{Each, Apart}
-use Rattle.fal_story.proofs.Phase.{Phase, Idle, Waits, Plans}
+use Rattle.fal_story.proofs.Phase.{Phase, Idle, Waits, Plans, Tells, Lists}
+use Rattle.fal_story.proofs.Trees.Parted.{AreParts}
 use Rattle.fal_story.proofs.Trees.PlaceAnswers.{table_reply}
 use Rattle.fal_story.proofs.Lists.Members.{IsIn}
 use Rattle.fal_story.proofs.View.{View, Post, Asking, Operating, Mapped, IsPosted, plain, seat}
@@ -202,13 +206,26 @@ pub record IsTidy (list : WaitList) : Type 0 where
 abbrev pub AreSent : List Post → ℕ → List Item → Type 0
 AreSent posts n items = Each (λ item. (e : ℕ) × ((p : ℕ) × IsPosted posts e (Node n) p item.message)) items
 
+-- a listing is under way where the call's place says so; it has a place for each node's part, and some part is missing
+abbrev pub IsListed : ℕ → Phase → Option Listing → Type 0
+IsListed nodes phase None = (k dir : ℕ) → phase ≢ Tells (Lists k dir)
+IsListed nodes phase (Some listing) = (phase ≡ Tells (Lists listing.opened listing.dir)) × (length listing.parts ≡ nodes) × (0 < missing_count listing.parts)
+
 -- a client agrees. Its table is one of those that the placements left, as what clients know says
 pub record Heard (config : Config) (call : ℕ → CallRec) (phase : ℕ → Phase) (l : ℕ) (c : ClientState) : Type 0 where
   pub lane : c.lane ≡ l
   pub nodes : c.nodes ≡ config.nodes
   pub left : (k : ℕ) → slice_get c.left k ≡ call_of config l (c.seq + 1 + k)
   pub none : c.current ≡ None → phase l ≡ Idle
-  pub some : (current : Current) → c.current ≡ Some current → (phase l ≢ Idle) × (current.call ≡ plain (call l)) × (current.attempt ≡ (call l).id.attempt) × (current.listing ≡ None)
+  pub some : (current : Current) → c.current ≡ Some current → (phase l ≢ Idle) × (current.call ≡ plain (call l)) × (current.attempt ≡ (call l).id.attempt) × IsListed config.nodes (phase l) current.listing
+
+-- each part that a listing keeps is its node's share
+abbrev pub AreKept : Placement → List Commit → Option Listing → Type 0
+AreKept table commits None = Unit {0}
+AreKept table commits (Some listing) = AreParts table commits listing.opened listing.dir listing.parts
+
+abbrev pub IsKeeping : List Commit → ClientState → Type 0
+IsKeeping commits c = (current : Current) → c.current ≡ Some current → AreKept c.table commits current.listing
 
 -- what is blocked is one name
 abbrev pub HasOneName : Option Blocking → Type 0
@@ -304,5 +321,6 @@ pub record Shows (config : Config) (w : World) (h : Ghost) : Type 0 where
   pub held : (n : ℕ) → Held h.call h.phase n (w.nodes n).waiting.calls (calls_in (w.nodes n).batches)
   pub items : (n : ℕ) → AreSent (posts_of w.envelopes) n (w.nodes n).items
   pub heard : (l : ℕ) → Heard config h.call h.phase l (w.clients l)
+  pub kept : (l : ℕ) → IsKeeping w.commits (w.clients l)
   pub placed : (n : ℕ) → IsPlaced config n (w.nodes n)
   pub beside : Beside config w.nodes w.coord h

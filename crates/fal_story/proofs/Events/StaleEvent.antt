@@ -1,7 +1,6 @@
 -- A client hears that its table is stale: it takes the changes, and sends its call again by the newer table.
-use Rattle.std.proofs.Common.{◌≡◌, ◌≢◌, inl, ⊎_elim, ℕ, ◌+◌, ◌<◌, true, false, cond, List, [], ◌∷◌, ◌++◌, length, Some, None, refl, sym, ap, ◌∙◌, subst, arith, append-nil}
-use Rattle.std.specs.Prelude.{IsTrue}
-use Rattle.std.specs.List.{All, list_all}
+use Rattle.std.proofs.Common.{◌≡◌, ◌≢◌, inl, ⊎_elim, ℕ, ◌+◌, ◌<◌, List, [], ◌∷◌, ◌++◌, length, Some, None, refl, sym, ap, ◌∙◌, subst, arith, append-nil}
+use Rattle.std.specs.List.{All}
 use Rattle.std.proofs.lemmas.Option.{same_Some}
 use Rattle.fal_base.specs.declared.call.Call.{Call}
 use Rattle.fal_base.specs.declared.call.CallId.{CallId}
@@ -12,48 +11,80 @@ use Rattle.fal_base.specs.declared.event.Actor.TheVariants.{Client, Node}
 use Rattle.fal_base.specs.declared.event.Note.TheVariants as note
 use Rattle.fal_base.specs.declared.rule.RuleChange.{RuleChange}
 use Rattle.fal_client.specs.declared.current.Current.{Current}
+use Rattle.fal_client.specs.declared.current.Listing.{Listing}
 use Rattle.fal_client.specs.Paths.{addressee}
-use Rattle.fal_client.specs.State.{ClientState, Work as ClientWork, unchanged}
-use Rattle.fal_client.specs.Step.{told_stale, retried as tried_again, id_at, letter_to}
-use Rattle.fal_place.specs.Placement.{Placement, is_within, table_after, with_changes}
-use Rattle.fal_place.proofs.Carried.{catches_up}
+use Rattle.fal_client.specs.State.{ClientState}
+use Rattle.fal_client.specs.Step.{retried as tried_again, id_at, letter_to}
+use Rattle.fal_place.specs.Placement.{Placement, changes_since, table_after, with_changes}
+use Rattle.fal_place.proofs.Carried.{catches_up, version-table_after}
 use Rattle.fal_wire.specs.declared.message.Message.TheVariants as message
 use Rattle.fal_wire.specs.Letters.{output_of}
 use Rattle.fal_wire.specs.Messages.{Fits}
 use Rattle.fal_story.proofs.Events.Besides.{beside_at_client}
-use Rattle.fal_story.proofs.Events.ClientEvent.{EndsClient, held_elsewhere, heard_other, posts_with, rests, sent_more}
-use Rattle.fal_story.proofs.Events.ServedCalls.{node_seat, served_at}
-use Rattle.fal_story.proofs.Events.Shows.{Ghost, Shows, Heard, AreSent, view_of, posts_of, known_of}
-use Rattle.fal_story.proofs.Families.Knowing.{retried, stale_comes}
+use Rattle.fal_story.proofs.Events.ClientEvent.{EndsClient, held_elsewhere, heard_other, posts_with, sent_more}
+use Rattle.fal_story.proofs.Events.Hearing.{lists_now, not_older}
+use Rattle.fal_story.proofs.Events.HeldCalls.{AsksNone}
+use Rattle.fal_story.proofs.Listing.Keeping.{keeping_put}
+use Rattle.fal_story.proofs.Events.ServedCalls.{node_seat, seated_at}
+use Rattle.fal_story.proofs.Events.Shows.{Ghost, Shows, Heard, AreKept, AreSent, IsListed, view_of, posts_of, known_of}
+use Rattle.fal_story.proofs.Families.Knowing.{retried}
 use Rattle.fal_story.proofs.Families.Lanes.{positive}
 use Rattle.fal_story.proofs.Good.{Good}
 use Rattle.fal_story.proofs.Lists.Grown.{put_other, put_same, put_back, at_put, put_all}
-use Rattle.fal_story.proofs.Phase.{Phase, Idle, Asked, Plans, Runs, Told, IsHeld}
+use Rattle.fal_story.proofs.Phase.{Phase, Idle, Asked, Plans, Runs, Told, Tells, Lists, IsHeld}
 use Rattle.fal_story.proofs.Steps.Posted.{posted_good}
 use Rattle.fal_story.proofs.Steps.Retried.{retried_good}
 use Rattle.fal_story.proofs.View.{View, IsPosted, post, plain}
-use Rattle.fal_story.specs.Clusters.{IsCluster, is_served}
+use Rattle.fal_story.specs.Clusters.{IsCluster}
 use Rattle.fal_story.specs.World.{World, put, posted}
 
 -- ---- the Stale of the current attempt
 
--- it is the live copy of the call, which is told
+-- where the client asks for no parts, it is the live copy of the call, which is told
 pub told_now : (config : Config) (w : World) (h : Ghost) (l e p : ℕ) (id : CallId) (old new : ℕ) (changes : List RuleChange) (current : Current) → Shows config w h
-    → IsPosted (posts_of w.envelopes) e (Client l) p (message.Stale id old new changes) → (w.clients l).current ≡ Some current → id.seq ≡ (w.clients l).seq → id.attempt ≡ current.attempt → h.phase l ≡ Told old new
-told_now config w h l e p id old new changes current s posted busy seq attempt =
+    → IsPosted (posts_of w.envelopes) e (Client l) p (message.Stale id old new changes) → (w.clients l).current ≡ Some current → id.seq ≡ (w.clients l).seq → id.attempt ≡ current.attempt → current.listing ≡ None
+    → h.phase l ≡ Told old new
+told_now config w h l e p id old new changes current s came busy seq attempt none =
     let y = (s.heard l).some current busy in
-    let same = attempt ∙ y.2 in
+    let unlisted : IsListed config.nodes (h.phase l) None = subst (IsListed config.nodes (h.phase l)) none y.3 in
     ⊎_elim
-    (λ older. absurd (⊎_elim (λ less. let z : id.seq < (w.clients l).seq = less in omega arith) (λ less. let z = less.1 in omega arith) older))
-    (λ live. live.2)
-    (s.good.knowing.stale e p l id old new changes posted).3
+    (λ older. absurd (not_older id (w.clients l).seq (h.call l) seq (attempt ∙ y.2) older))
+    (λ z. ⊎_elim
+    (λ live. live.1)
+    (λ listed. absurd (⊎_elim (λ idle. y.0 idle) (λ asking. unlisted asking.0 listed.0 asking.1) listed.1.1))
+    z)
+    (s.good.knowing.stale e p l id old new changes came).3
 
--- the client then has the table of the later version
+-- while it lists, it asks by the table that it is told to be stale
+pub asked_by : (config : Config) (w : World) (h : Ghost) (l e p : ℕ) (id : CallId) (old new : ℕ) (changes : List RuleChange) (current : Current) (listing : Listing) → Shows config w h
+    → IsPosted (posts_of w.envelopes) e (Client l) p (message.Stale id old new changes) → (w.clients l).current ≡ Some current → id.seq ≡ (w.clients l).seq → id.attempt ≡ current.attempt → current.listing ≡ Some listing
+    → old ≡ (w.clients l).table.version
+asked_by config w h l e p id old new changes current listing s came busy seq attempt is =
+    let y = (s.heard l).some current busy in
+    let lists = lists_now config w l h s current busy listing is in
+    ⊎_elim
+    (λ older. absurd (not_older id (w.clients l).seq (h.call l) seq (attempt ∙ y.2) older))
+    (λ z. ⊎_elim
+    (λ live. let wrong : Tells (Lists listing.opened listing.dir) ≡ Told old new = sym lists ∙ live.1 in absurd (cc))
+    (λ listed. ⊎_elim (λ idle. absurd (y.0 idle)) (λ asking. asking.2) listed.1.1)
+    z)
+    (s.good.knowing.stale e p l id old new changes came).3
+
+-- with the changes to the table that it has, a client has the table of the later version
+pub later_table : (config : Config) (w : World) (h : Ghost) (l e p : ℕ) (id : CallId) (old new : ℕ) (changes : List RuleChange) → Shows config w h
+    → IsPosted (posts_of w.envelopes) e (Client l) p (message.Stale id old new changes) → old ≡ (w.clients l).table.version → with_changes (w.clients l).table new changes ≡ table_after config.nodes h.placings new
+later_table config w h l e p id old new changes s came is =
+    let table = (w.clients l).table in
+    let x = s.good.knowing.stale e p l id old new changes came in
+    let k = s.good.knowing.knows l in
+    let later = x.0 in
+    let same : old ≡ k.0 = is ∙ ap (λ (t : Placement). t.version) k.2 ∙ version-table_after config.nodes h.placings k.0 k.1 in
+    catches_up table (with_changes table new changes) new changes refl config.nodes h.placings k.0 (omega arith) x.1 k.2 (x.2 ∙ ap (λ i. changes_since i (table_after config.nodes h.placings new)) same)
+
+-- the client of a call that is told then has the table of the later version
 pub takes_table : (config : Config) (w : World) (h : Ghost) (l e p : ℕ) (id : CallId) (old new : ℕ) (changes : List RuleChange) → Shows config w h
     → IsPosted (posts_of w.envelopes) e (Client l) p (message.Stale id old new changes) → h.phase l ≡ Told old new → with_changes (w.clients l).table new changes ≡ table_after config.nodes h.placings new
-takes_table config w h l e p id old new changes s posted told =
-    let table = (w.clients l).table in
-    (stale_comes s.good.knowing e p l old new id changes (with_changes table new changes) posted told (catches_up table (with_changes table new changes) new changes refl)).1
+takes_table config w h l e p id old new changes s came told = later_table config w h l e p id old new changes s came (s.good.knowing.told l old new told).0
 
 -- ---- the call as it is sent again
 
@@ -84,8 +115,8 @@ trying c table call attempt = record c { table = table; current = Some (record {
 
 -- it knows its call at the next attempt
 heard_again : (config : Config) (call call' : ℕ → CallRec) (phase phase' : ℕ → Phase) (l : ℕ) (c : ClientState) (table : Placement) (k : Call) (attempt : ℕ) → c.current ≡ Some (record { call = k; attempt = attempt; listing = None })
-    → phase' l ≢ Idle → {new : ℕ} → call' l ≡ retried (call l) new → Heard config call phase l c → Heard config call' phase' l (trying c table k (attempt + 1))
-heard_again config call call' phase phase' l c table k attempt busy under {new} called x =
+    → phase' l ≢ Idle → AsksNone (phase' l) → {new : ℕ} → call' l ≡ retried (call l) new → Heard config call phase l c → Heard config call' phase' l (trying c table k (attempt + 1))
+heard_again config call call' phase phase' l c table k attempt busy under none {new} called x =
     let y = x.some (record { call = k; attempt = attempt; listing = None }) busy in
     record {
       lane = x.lane;
@@ -97,7 +128,7 @@ heard_again config call call' phase phase' l c table k attempt busy under {new} 
             under,
             ap (λ (t : Current). t.call) (sym one) ∙ y.1 ∙ ap plain (sym called),
             ap (λ (t : Current). t.attempt) (sym one) ∙ ap (λ a. a + 1) y.2 ∙ ap (λ (r : CallRec). r.id.attempt) (sym called),
-            ap (λ (t : Current). t.listing) (sym one),
+            subst (λ (t : Current). IsListed config.nodes (phase' l) t.listing) one (λ i j is. subst AsksNone is none),
           );
     }
 
@@ -120,8 +151,7 @@ resends config w l h table call attempt old new cluster s busy told caught fits 
     let next = retried (h.call l) new in
     let made = again c call (attempt + 1) new in
     let is : made ≡ next = again_is config w h l new current s busy in
-    let served : IsTrue (is_served call.op) = subst (λ (k : Call). IsTrue (is_served k.op)) (sym y.1) (s.good.lanes.under_way.served l y.0) in
-    let to = served_at table call.op served in
+    let to = seated_at table call.op in
     let n = to.0 in
     let few = cluster.few_nodes in
     let routed : n < config.nodes → addressee later (h.call l).op ≡ Node n = λ below.
@@ -131,7 +161,7 @@ resends config w l h table call attempt old new cluster s busy told caught fits 
     let v1 : View = record v { entries = w.entries ++ entry.Stale l c.seq old new ∷ []; call = h'.call; phase = h'.phase; map = record v.map { known = put v.map.known l later } } in
     let lane_is : made.id.client ≡ l = x.lane in
     let second = posted_good config v1 (Node n) count (message.Call made)
-    (record { asking = tt; records = (n, refl, inl (is ∙ sym (ap h'.call lane_is ∙ put_same h.call l next), ap h'.phase lane_is ∙ put_same h.phase l (Asked n))); operation = tt; bars = tt; knowing = tt })
+    (record { asking = tt; records = (n, refl, inl (is ∙ sym (ap h'.call lane_is ∙ put_same h.call l next), ap h'.phase lane_is ∙ put_same h.phase l (Asked n))); operation = tt; bars = tt; knowing = tt; listings = tt })
     first in
     let new_client = trying c table call (attempt + 1) in
     let sent = letter_to (addressee table call.op) (message.Call made) in
@@ -153,15 +183,16 @@ resends config w l h table call attempt old new cluster s busy told caught fits 
         held = λ m. held_elsewhere h.call h'.call h.phase h'.phase l (λ k at. subst (IsHeld k) told at) (λ k ne. (put_other h.phase l (Asked n) k ne, put_other h.call l next k ne)) m _ _ (s.held m);
         items = λ m. subst (λ ps. AreSent ps m (w.nodes m).items) posts (sent_more (posts_of w.envelopes) (post (Node n) count (message.Call made) ∷ []) m (w.nodes m).items (s.items m));
         heard = put_all (λ m z. Heard config h'.call h'.phase m z) w.clients l new_client
-            (heard_again config h.call h'.call h.phase h'.phase l c table call attempt busy (λ idle. let wrong : Asked n ≡ Idle = sym (put_same h.phase l (Asked n)) ∙ idle in absurd (cc)) (put_same h.call l next) x)
+            (heard_again config h.call h'.call h.phase h'.phase l c table call attempt busy (λ idle. let wrong : Asked n ≡ Idle = sym (put_same h.phase l (Asked n)) ∙ idle in absurd (cc)) (subst AsksNone (sym (put_same h.phase l (Asked n))) tt) (put_same h.call l next) x)
             (λ m ne. heard_other config h.call h'.call h.phase h'.phase m (w.clients m) (put_other h.phase l (Asked n) m ne) (put_other h.call l next m ne) (s.heard m));
+        kept = keeping_put w.commits w.clients l new_client (λ z e. subst (λ (t : Current). AreKept table w.commits t.listing) (same_Some (record { call = call; attempt = attempt + 1; listing = None }) z e) tt) s.kept;
         placed = s.placed;
         beside = beside_at_client config w.nodes w.coord h l h'.call h.since h'.phase s.good.operation.running (λ at. subst (IsHeld 255) told at) (λ e. let wrong : Told old new ≡ Runs = sym told ∙ e in absurd (cc))
             (λ i b e. let wrong : Asked n ≡ Plans i b = sym (put_same h.phase l (Asked n)) ∙ e in absurd (cc)) (λ m ne. (put_other h.phase l (Asked n) m ne, put_other h.call l next m ne)) s.beside;
       },
     )
 
-retries : (config : Config) (w : World) (l e p : ℕ) (h : Ghost) (id : CallId) (old new : ℕ) (changes : List RuleChange) (call : Call) (attempt : ℕ) → IsCluster config → Shows config w h
+pub retries : (config : Config) (w : World) (l e p : ℕ) (h : Ghost) (id : CallId) (old new : ℕ) (changes : List RuleChange) (call : Call) (attempt : ℕ) → IsCluster config → Shows config w h
     → IsPosted (posts_of w.envelopes) e (Client l) p (message.Stale id old new changes) → (w.clients l).current ≡ Some (record { call = call; attempt = attempt; listing = None })
     → id.seq ≡ (w.clients l).seq → id.attempt ≡ attempt
     → All (λ s. Fits s.message) (tried_again (w.clients l) (record { call = call; attempt = attempt; listing = None }) old new changes).sent
@@ -169,21 +200,7 @@ retries : (config : Config) (w : World) (l e p : ℕ) (h : Ghost) (id : CallId) 
 unfolding tried_again
 retries config w l e p h id old new changes call attempt cluster s posted busy seq same fit =
     let current : Current = record { call = call; attempt = attempt; listing = None } in
-    let told = told_now config w h l e p id old new changes current s posted busy seq same in
+    let told = told_now config w h l e p id old new changes current s posted busy seq same refl in
     let table = with_changes (w.clients l).table new changes in
     let made = again (w.clients l) call (attempt + 1) new in
     resends config w l h table call attempt old new cluster s busy told (takes_table config w h l e p id old new changes s posted told) (fit 0 (letter_to (addressee table call.op) (message.Call made)) (omega arith))
-
--- a client takes a Stale of its current attempt, unless a rule is of no node that is there
-pub stales : (config : Config) (w : World) (l e p : ℕ) (h : Ghost) (id : CallId) (old new : ℕ) (changes : List RuleChange) (current : Current) → IsCluster config → Shows config w h
-    → IsPosted (posts_of w.envelopes) e (Client l) p (message.Stale id old new changes) → (w.clients l).current ≡ Some current → id.seq ≡ (w.clients l).seq → id.attempt ≡ current.attempt
-    → All (λ s. Fits s.message) (told_stale (w.clients l) current old new changes).sent → EndsClient config w l (told_stale (w.clients l) current old new changes)
-unfolding told_stale
-stales config w l e p h id old new changes current cluster s posted busy seq same fit =
-    let c = w.clients l in
-    let none : ◌≡◌ {A = Current} current (record current { listing = None }) = let y = (s.heard l).some current busy in λ i. record current { listing = y.3 i } in
-    let Ends : ClientWork → Type 0 = λ work. All (λ s. Fits s.message) work.sent → EndsClient config w l work in
-    elim (list_all (λ change. is_within c.table.nodes change.rule) changes) as (λ b. Ends (cond b (tried_again c current old new changes) (unchanged c))) [
-      | true ↦ subst (λ k. Ends (tried_again c k old new changes)) (sym none) (retries config w l e p h id old new changes current.call current.attempt cluster s posted (busy ∙ ap Some none) seq same)
-      | false ↦ λ _. rests config w l h s
-    ] fit

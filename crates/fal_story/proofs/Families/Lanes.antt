@@ -1,6 +1,6 @@
 -- Where each lane's call is, and what its answer has to be.
 use Rattle.std.proofs.Common.{◌≡◌, ◌≢◌, ◌⊎◌, inl, inr, ⊎_elim, ℕ, ◌+◌, ◌<◌, ◌≤◌, List, [], ◌∷◌, ◌++◌, length, Option, Some, IsSomeAnd, true, false, refl, sym, ap, ◌∙◌, subst, arith}
-use Rattle.std.specs.Prelude.{slice_get, IsTrue, ◌==◌}
+use Rattle.std.specs.Prelude.{slice_get, ◌==◌}
 use Rattle.fal_base.specs.declared.call.CallRec.{CallRec}
 use Rattle.fal_base.specs.declared.call.Cred.{Cred}
 use Rattle.fal_base.specs.declared.event.Actor.TheVariants.{Node}
@@ -10,7 +10,7 @@ use Rattle.fal_base.specs.declared.reply.Reply.{Reply}
 use Rattle.fal_base.specs.Answer.{answer}
 use Rattle.fal_base.specs.Change.{makes}
 use Rattle.fal_base.specs.Commits.{Commit, tree_at}
-use Rattle.fal_base.specs.Transcript.{is_place}
+use Rattle.fal_base.specs.Transcript.{is_names, is_place}
 use Rattle.fal_story.proofs.Lists.Grown.{slice_get_snoc, slice_get_front, tells, from_put, put_all, put_both, put_four}
 use Rattle.fal_story.proofs.Phase.{Phase, Idle, Asked, Tells, Replies, Goes, IsFor, IsUnanswered, goes_put}
 use Rattle.fal_story.proofs.Trees.Commits.{longer, tree_at_front}
@@ -23,12 +23,13 @@ use Rattle.fal_exec.specs.RowCall.{row_names}
 use Rattle.fal_batch.specs.Fate.{goes_by_parent, last_of}
 use Rattle.fal_place.specs.Placement.{Placement, owner, route}
 use Rattle.fal_wire.specs.Ops.{op_field}
-use Rattle.fal_story.specs.Clusters.{is_served}
 use Rattle.fal_story.specs.World.{put}
 
 -- what the answer of a lane's call about the tree has to be
 pub record IsRight (commits : List Commit) (seq : ℕ) (call : CallRec) (since l k : ℕ) (reply : Reply) : Type 0 where
   pub tree : is_place call.op ≡ false
+  -- what is listed comes in parts
+  pub plain : is_names reply ≡ false
   pub from : since ≤ k
   pub to : k ≤ length commits
   pub served : reply ≡ answer (tree_at commits k) call.cred call.op
@@ -41,10 +42,9 @@ Right commits seq call since phase = (l k : ℕ) (reply : Reply) → phase l ≡
 abbrev pub Uncommitted : List Commit → (ℕ → ℕ) → (ℕ → Phase) → Type 0
 Uncommitted commits seq phase = (l i : ℕ) (c : Commit) → IsUnanswered (phase l) → slice_get commits i ≡ Some c → IsBy l (seq l) c → ⊥
 
--- a lane without a call has nothing under way, and a call that is under way is one that is served and that a record can hold
+-- a lane without a call has nothing under way, and a call that is under way is one that a record can hold
 pub record UnderWay (seq : ℕ → ℕ) (call : ℕ → CallRec) (phase : ℕ → Phase) : Type 0 where
   pub started : (l : ℕ) → seq l ≡ 0 → phase l ≡ Idle
-  pub served : (l : ℕ) → phase l ≢ Idle → IsTrue (is_served (call l).op)
   pub fits : (l : ℕ) → phase l ≢ Idle → op_field.Fits (call l).op
 
 -- calls with these names belong to the node: by the last name alone, or by parent, where the walk ends at a key that the node owns
@@ -78,6 +78,7 @@ right_more commits c seq call since l k reply other x =
     let same = tree_at_front commits (c ∷ []) k x.to in
     record {
       tree = x.tree;
+      plain = x.plain;
       from = x.from;
       to = let a = x.to in let b = longer commits c in omega arith;
       served = x.served ∙ ap (λ t. answer t call.cred call.op) (sym same);
@@ -92,7 +93,6 @@ right_more commits c seq call since l k reply other x =
 pub record Begins (nodes : ℕ) (table : Placement) (commits : List Commit) (call : CallRec) (q : Phase) : Type 0 where
   pub no_done : (k : ℕ) (reply : Reply) → q ≢ Tells (Replies k reply)
   pub routed : (n : ℕ) → IsFor n q → IsRouted nodes table commits n call
-  pub served : IsTrue (is_served call.op)
   pub fits : q ≢ Idle → op_field.Fits call.op
 
 -- ---- hops
@@ -163,7 +163,6 @@ module _ {nodes : ℕ} {table : Placement} {commits : List Commit} {seq : ℕ �
         (λ a apart i d waits there by. ⊎_elim (λ y. g.uncommitted a i d waits y by) (λ y. apart (sym (sym by_lane ∙ ap (λ (z : Commit). z.lane) y.1 ∙ by.0))) (slice_get_snoc commits c i d there));
     under_way = record {
       started = put_all (λ a p. seq a ≡ 0 → p ≡ Idle) phase l (Tells (Replies k reply)) (λ none. absurd (busy (g.under_way.started l none))) (λ a _. g.under_way.started a);
-      served = put_all (λ a p. p ≢ Idle → IsTrue (is_served (call a).op)) phase l (Tells (Replies k reply)) (λ _. g.under_way.served l busy) (λ a _. g.under_way.served a);
       fits = put_all (λ a p. p ≢ Idle → op_field.Fits (call a).op) phase l (Tells (Replies k reply)) (λ _. g.under_way.fits l busy) (λ a _. g.under_way.fits a);
     };
     routed = put_all (λ a p. (n : ℕ) → IsFor n p → IsRouted nodes table (commits ++ c ∷ []) n (call a)) phase l (Tells (Replies k reply)) (λ n none. absurd none) (λ a _ n is. routed_more nodes table commits c n (call a) (g.routed a n is));
@@ -177,7 +176,6 @@ module _ {nodes : ℕ} {table : Placement} {commits : List Commit} {seq : ℕ �
     uncommitted = λ l i c live. g.uncommitted l i c ((goes l).live live);
     under_way = record {
       started = λ l e. (goes l).still (g.under_way.started l e);
-      served = λ l busy. g.under_way.served l (λ e. busy ((goes l).still e));
       fits = λ l busy. g.under_way.fits l (λ e. busy ((goes l).still e));
     };
     routed = λ l n is. g.routed l n (for l n is);
@@ -205,7 +203,6 @@ module _ {nodes : ℕ} {table : Placement} {commits : List Commit} {seq : ℕ �
         m;
     under_way = record {
       started = put_both (λ i s p. s ≡ 0 → p ≡ Idle) seq phase l (seq l + 1) p (λ z. absurd (omega arith)) (λ i _. g.under_way.started i);
-      served = put_both (λ i x p. p ≢ Idle → IsTrue (is_served x.op)) call phase l c p (λ _. begins.served) (λ i _. g.under_way.served i);
       fits = put_both (λ i x p. p ≢ Idle → op_field.Fits x.op) call phase l c p begins.fits (λ i _. g.under_way.fits i);
     };
     routed = put_both (λ i x p. (n : ℕ) → IsFor n p → IsRouted nodes table commits n x) call phase l c p begins.routed (λ i _. g.routed i);
@@ -220,11 +217,23 @@ module _ {nodes : ℕ} {table : Placement} {commits : List Commit} {seq : ℕ �
         uncommitted = put_all (λ a p. (i : ℕ) (d : Commit) → IsUnanswered p → slice_get commits i ≡ Some d → IsBy a (seq a) d → ⊥) phase l (Asked m) (λ i d _. g.uncommitted l i d live) (λ a _. g.uncommitted a);
         under_way = record {
           started = put_all (λ a p. seq a ≡ 0 → p ≡ Idle) phase l (Asked m) (λ none. absurd (busy (g.under_way.started l none))) (λ a _. g.under_way.started a);
-          served = put_both (λ i x p. p ≢ Idle → IsTrue (is_served x.op)) call phase l c (Asked m) (λ _. subst (λ o. IsTrue (is_served o)) (sym same) (g.under_way.served l busy)) (λ i _. g.under_way.served i);
           fits = put_both (λ i x p. p ≢ Idle → op_field.Fits x.op) call phase l c (Asked m) (λ _. subst op_field.Fits (sym same) (g.under_way.fits l busy)) (λ i _. g.under_way.fits i);
         };
         routed = put_both (λ i x p. (n : ℕ) → IsFor n p → IsRouted nodes table commits n x) call phase l c (Asked m) (λ n at. subst (λ z. IsRouted nodes table commits z c) at routed) (λ i _. g.routed i);
       }
+
+  -- a listing is tried again: the call is the same, but for its attempt and version
+  pub lanes_again : (l : ℕ) (c : CallRec) (p : Phase) → phase l ≢ Idle → c.op ≡ (call l).op → ((n : ℕ) → IsFor n p → ⊥) → (IsUnanswered p → ⊥) → ((k : ℕ) (reply : Reply) → p ≢ Tells (Replies k reply))
+      → Lanes nodes table commits seq (put call l c) since (put phase l p)
+  lanes_again l c p busy same for live done = record {
+    right = λ a k r. put_both (λ i x p. p ≡ Tells (Replies k r) → is_place x.op ≡ false → IsRight commits (seq i) x (since i) i k r) call phase l c p (λ w. absurd (done k r w)) (λ i _ w. g.right i k r w) a;
+    uncommitted = put_all (λ a p. (i : ℕ) (d : Commit) → IsUnanswered p → slice_get commits i ≡ Some d → IsBy a (seq a) d → ⊥) phase l p (λ i d is. absurd (live is)) (λ a _. g.uncommitted a);
+    under_way = record {
+      started = put_all (λ a p. seq a ≡ 0 → p ≡ Idle) phase l p (λ none. absurd (busy (g.under_way.started l none))) (λ a _. g.under_way.started a);
+      fits = put_both (λ i x p. p ≢ Idle → op_field.Fits x.op) call phase l c p (λ _. subst op_field.Fits (sym same) (g.under_way.fits l busy)) (λ i _. g.under_way.fits i);
+    };
+    routed = put_both (λ i x p. (n : ℕ) → IsFor n p → IsRouted nodes table commits n x) call phase l c p (λ n at. absurd (for n at)) (λ i _. g.routed i);
+  }
 
   -- a lane's call is answered
   pub lanes_idle : (l : ℕ) → Lanes nodes table commits seq call since (put phase l Idle)
@@ -233,7 +242,6 @@ module _ {nodes : ℕ} {table : Placement} {commits : List Commit} {seq : ℕ �
     uncommitted = put_all (λ m p. (i : ℕ) (c : Commit) → IsUnanswered p → slice_get commits i ≡ Some c → IsBy m (seq m) c → ⊥) phase l Idle (λ i c x. absurd x) (λ m _. g.uncommitted m);
     under_way = record {
       started = put_all (λ m p. seq m ≡ 0 → p ≡ Idle) phase l Idle (λ z. refl) (λ m _. g.under_way.started m);
-      served = put_all (λ m p. p ≢ Idle → IsTrue (is_served (call m).op)) phase l Idle (λ z. absurd (z refl)) (λ m _. g.under_way.served m);
       fits = put_all (λ m p. p ≢ Idle → op_field.Fits (call m).op) phase l Idle (λ z. absurd (z refl)) (λ m _. g.under_way.fits m);
     };
     routed = put_all (λ a p. (n : ℕ) → IsFor n p → IsRouted nodes table commits n (call a)) phase l Idle (λ n none. absurd none) (λ a _. g.routed a);

@@ -136,6 +136,11 @@ module _ {config : Config} {entries : List Entry} {placings : List Placing} {kno
   placements_committed l ino k reply tree =
       placements_moved (placements_noted g (entry.Commit l (seq l) ino) known refl tt tt g.knows) (put phase l (Tells (Replies k reply))) (put_tells config seq phase l (Tells (Replies k reply)) (λ _ _ _. tree))
 
+  -- the client of a listing is told of its directory
+  pub placements_opened : (l dir point : ℕ) (p : Phase) → ((k : ℕ) (reply : Reply) → p ≢ Tells (Replies k reply)) → Placements config (entries ++ entry.Opened l (seq l) dir point ∷ []) placings known seq since (put phase l p)
+  placements_opened l dir point p none =
+      placements_moved (placements_noted g (entry.Opened l (seq l) dir point) known refl tt tt g.knows) (put phase l p) (put_tells config seq phase l p (λ k reply told. absurd (none k reply told)))
+
   -- a lane's call is answered
   pub placements_answered : (l k sent : ℕ) (reply : Reply) → slice_get entries sent ≡ Some (entry.Sent l (seq l)) → at entries sent ≡ since l → (phase l ≡ Tells (Replies k reply)) ⊎ IsOfTree config l (seq l)
       → Placements config (entries ++ entry.Answered l (seq l) k reply ∷ []) placings known seq since (put phase l Idle)

@@ -19,15 +19,15 @@ use Rattle.fal_base.specs.EachOnce.{NotAnswered}
 use Rattle.fal_base.specs.Linear.{IsAnswer}
 use Rattle.fal_base.specs.Transcript as transcript
 use Rattle.fal_base.specs.Places.{names_ruled, place_answer}
-use Rattle.fal_base.specs.Transcript.{at, call_of, commits_of, is_commit, is_place, lane_call, numbered}
+use Rattle.fal_base.specs.Transcript.{at, call_of, commits_of, is_commit, is_list, is_names, is_place, lane_call, numbered}
 use Rattle.fal_base.specs.Tree.{Tree, tree0}
 use Rattle.fal_place.specs.Placement.{Placement, Placing}
 use Rattle.fal_story.proofs.Families.Lanes.{IsRight}
-use Rattle.fal_story.proofs.Families.Placements.{IsOfTree, Placements, placements_answered, placements_committed, placements_moved, placements_placed, placements_refused, placements_sent, placements_staled}
+use Rattle.fal_story.proofs.Families.Placements.{IsOfTree, Placements, placements_answered, placements_committed, placements_moved, placements_opened, placements_placed, placements_refused, placements_sent, placements_staled}
 use Rattle.fal_story.proofs.Lists.Grown.{slice_get_snoc, slice_get_below, slice_get_front, slice_get_end, from_put, put_all, put_both, put_four, put_same}
-use Rattle.fal_story.proofs.Phase.{Phase, Idle, Tells, Replies, Goes, IsUnanswered, goes_put}
+use Rattle.fal_story.proofs.Phase.{Phase, Idle, Tells, Replies, Opens, Lists, Goes, IsUnanswered, goes_put}
 use Rattle.fal_story.proofs.Trees.Commits.{longer}
-use Rattle.fal_story.proofs.Trees.Once.{Once, once_answered, once_committed, once_placed, once_sent, once_staled}
+use Rattle.fal_story.proofs.Trees.Once.{Once, once_answered, once_committed, once_opened, once_placed, once_sent, once_staled}
 use Rattle.fal_story.proofs.Trees.Transcript.{answer_more, at_end, at_front, calls_more, commits_append, count_snoc, joined_more, IsJoined, Calls}
 use Rattle.fal_story.proofs.View.{plain}
 use Rattle.fal_run.specs.Calls.{number_after}
@@ -43,11 +43,11 @@ pub record Commits (commits : List Commit) (seq : ℕ → ℕ) (drawn : ℕ → 
   pub numbers : (i : ℕ) (c : Commit) → slice_get commits i ≡ Some c → IsDrawn drawn c.ino
   pub few : (n : ℕ) → drawn n ≤ length commits
 
--- the answers so far; what a change of placement is answered is said with the changes
+-- the answers so far; what a change of placement is answered is said with the changes, and what is listed with the listings
 abbrev pub Answers : Config → List Entry → (ℕ → ℕ) → (ℕ → Phase) → Type 0
 Answers config entries seq phase =
     (j l s k : ℕ) (reply : Reply) → slice_get entries j ≡ Some (entry.Answered l s k reply)
-    → (s ≤ seq l) × (s ≡ seq l → phase l ≡ Idle) × ((call : Call) → call_of config l s ≡ Some call → is_place call.op ≡ false → IsAnswer config entries j l s k reply call)
+    → (s ≤ seq l) × (s ≡ seq l → phase l ≡ Idle) × ((call : Call) → call_of config l s ≡ Some call → is_place call.op ≡ false → is_names reply ≡ false → IsAnswer config entries j l s k reply call)
 
 pub record Script (config : Config) (entries : List Entry) (made : List Commit) (placings : List Placing) (known : ℕ → Placement) (seq : ℕ → ℕ) (call : ℕ → CallRec) (since : ℕ → ℕ) (phase : ℕ → Phase) (drawn : ℕ → ℕ) : Type 0 where
   pub commits : Commits made seq drawn
@@ -119,12 +119,12 @@ module _ {config : Config} {entries : List Entry} {commits : List Commit} {placi
         (λ y. let z = g.answers j a s i r y in (
           z.0,
           put_all (λ a q. (s ≡ seq a → phase a ≡ Idle) → s ≡ seq a → q ≡ Idle) phase l (Tells (Replies k reply)) (λ was same. absurd (busy (was same))) (λ a _ was. was) a z.1,
-          λ call named tree. answer_more config entries noted commits j a s i r call g.joined (slice_get_below entries j _ y)
+          λ call named tree plain. answer_more config entries noted commits j a s i r call g.joined (slice_get_below entries j _ y)
               (λ number same.
               let lane : l ≡ a = cc in
               let at : seq l ≡ s = cc in
               busy (ap phase lane ∙ z.1 (sym at ∙ ap seq lane)))
-              (z.2 call named tree),
+              (z.2 call named tree plain),
         ))
         (λ y. absurd (cc))
         (slice_get_snoc entries noted j _ there)
@@ -157,7 +157,7 @@ module _ {config : Config} {entries : List Entry} {commits : List Commit} {placi
       unanswered = λ l i k reply busy. g.once.unanswered l i k reply (λ e. busy ((goes l).still e));
       uncommitted = λ l i ino live. g.once.uncommitted l i ino ((goes l).live live);
       unplaced = λ l i version live. g.once.unplaced l i version ((goes l).live live);
-      plain = g.once.plain;
+      unopened = λ l i ino point closed. g.once.unopened l i ino point ((goes l).unopened closed);
     };
     placements = placements;
   }
@@ -208,7 +208,7 @@ module _ {config : Config} {entries : List Entry} {commits : List Commit} {placi
           (λ w. let o = w.0 in (omega arith, λ u. absurd (omega arith)))
           (λ n _ w. w)
           m (x.0, x.1) in
-          (z.0, z.1, λ d is tree. answer_more config entries sent_now commits j m s i a d g.joined (slice_get_below entries j _ y) (λ ino w. absurd (cc)) (x.2 d is tree)))
+          (z.0, z.1, λ d is tree plain. answer_more config entries sent_now commits j m s i a d g.joined (slice_get_below entries j _ y) (λ ino w. absurd (cc)) (x.2 d is tree plain)))
           (λ y. absurd (cc))
           (slice_get_snoc entries sent_now j _ h);
       once = once_sent config entries seq phase l p (rw named refl) g.once;
@@ -241,13 +241,13 @@ module _ {config : Config} {entries : List Entry} {commits : List Commit} {placi
 
   -- the lane's call is answered
   module _ (l k : ℕ) (reply : Reply) (above : 0 < seq l) (none : NotAnswered entries (length entries) l (seq l))
-      (right : is_place (call l).op ≡ false → IsRight commits (seq l) (call l) (since l) l k reply) (told : (phase l ≡ Tells (Replies k reply)) ⊎ (is_place (call l).op ≡ false)) where
+      (right : is_place (call l).op ≡ false → is_names reply ≡ false → IsRight commits (seq l) (call l) (since l) l k reply) (told : (phase l ≡ Tells (Replies k reply)) ⊎ (is_place (call l).op ≡ false)) where
     abbrev answered_now : Entry
     answered_now = entry.Answered l (seq l) k reply
 
-    answered : (d : Call) → call_of config l (seq l) ≡ Some d → is_place d.op ≡ false → IsAnswer config (entries ++ answered_now ∷ []) (length entries) l (seq l) k reply d
-    answered d named tree =
-        let right = right (subst (λ (x : Call). is_place x.op ≡ false) (sym (named_now l d named)) tree) in
+    answered : (d : Call) → call_of config l (seq l) ≡ Some d → is_place d.op ≡ false → is_names reply ≡ false → IsAnswer config (entries ++ answered_now ∷ []) (length entries) l (seq l) k reply d
+    answered d named tree plain =
+        let right = right (subst (λ (x : Call). is_place x.op ≡ false) (sym (named_now l d named)) tree) plain in
         let q = (joined_more config entries answered_now commits refl g.joined).same in
         let a = subst (λ cs. IsRight cs (seq l) (call l) (since l) l k reply) q right in
         let x = g.calls.entry l above in
@@ -277,12 +277,12 @@ module _ {config : Config} {entries : List Entry} {commits : List Commit} {placi
           (λ y. let x = g.answers j m s i a y in (
             x.0,
             put_all (λ m q. (s ≡ seq m → phase m ≡ Idle) → s ≡ seq m → q ≡ Idle) phase l Idle (λ z w. refl) (λ m _ z. z) m x.1,
-            λ d is tree. answer_more config entries answered_now commits j m s i a d g.joined (slice_get_below entries j _ y) (λ ino w. absurd (cc)) (x.2 d is tree),
+            λ d is tree plain. answer_more config entries answered_now commits j m s i a d g.joined (slice_get_below entries j _ y) (λ ino w. absurd (cc)) (x.2 d is tree plain),
           ))
           (λ y. answered_parts
-          (λ m s i a. (s ≤ seq m) × (s ≡ seq m → put phase l Idle m ≡ Idle) × ((d : Call) → call_of config m s ≡ Some d → is_place d.op ≡ false → IsAnswer config (entries ++ answered_now ∷ []) j m s i a d))
+          (λ m s i a. (s ≤ seq m) × (s ≡ seq m → put phase l Idle m ≡ Idle) × ((d : Call) → call_of config m s ≡ Some d → is_place d.op ≡ false → is_names a ≡ false → IsAnswer config (entries ++ answered_now ∷ []) j m s i a d))
           l (seq l) k m s i reply a y.1
-          (omega arith, (λ _. put_same phase l Idle), λ d is tree. subst (λ z. IsAnswer config (entries ++ answered_now ∷ []) z l (seq l) k reply d) (sym y.0) (answered d is tree)))
+          (omega arith, (λ _. put_same phase l Idle), λ d is tree plain. subst (λ z. IsAnswer config (entries ++ answered_now ∷ []) z l (seq l) k reply d) (sym y.0) (answered d is tree plain)))
           (slice_get_snoc entries answered_now j _ h);
       once = once_answered config entries seq phase l k reply above none g.once;
       placements =
@@ -298,7 +298,7 @@ module _ {config : Config} {entries : List Entry} {commits : List Commit} {placi
       (λ y. let z = g.answers j a s i r y in (
         z.0,
         put_all (λ a q. (s ≡ seq a → phase a ≡ Idle) → s ≡ seq a → q ≡ Idle) phase l p (λ was same. absurd (busy (was same))) (λ a _ was. was) a z.1,
-        λ call named tree. answer_more config entries e commits j a s i r call g.joined (slice_get_below entries j _ y) (λ ino same. let on : is_commit e ≡ true = ap is_commit same in true≢false (sym on ∙ off)) (z.2 call named tree),
+        λ call named tree plain. answer_more config entries e commits j a s i r call g.joined (slice_get_below entries j _ y) (λ ino same. let on : is_commit e ≡ true = ap is_commit same in true≢false (sym on ∙ off)) (z.2 call named tree plain),
       ))
       (λ y. absurd (unanswered a s i r y.1))
       (slice_get_snoc entries e j _ there)
@@ -334,16 +334,32 @@ module _ {config : Config} {entries : List Entry} {commits : List Commit} {placi
         (placements_refused g.placements l k (plain (call l)) name rule (g.calls.named l above) places from (omega arith) reply is refused (λ i version there. g.once.unplaced l i version live there))
 
   -- a client learns that its table is stale, takes the changes, and goes on with its call
-  pub script_staled : (l old new : ℕ) (table : Placement) (c : CallRec) (p : Phase) → plain c ≡ plain (call l) → c.id.client ≡ (call l).id.client → c.id.seq ≡ (call l).id.seq → 0 < seq l → IsUnanswered (phase l)
+  pub script_staled : (l old new : ℕ) (table : Placement) (c : CallRec) (p : Phase) → plain c ≡ plain (call l) → c.id.client ≡ (call l).id.client → c.id.seq ≡ (call l).id.seq → 0 < seq l → phase l ≢ Idle → Goes (phase l) p
       → old ≡ (known l).version → table.version ≡ new → old < new → new ≤ length placings → ((k : ℕ) (reply : Reply) → p ≢ Tells (Replies k reply))
       → Script config (entries ++ entry.Stale l (seq l) old new ∷ []) commits placings (put known l table) seq (put call l c) since (put phase l p) drawn
-  script_staled l old new table c p same lane number above live was is later within none =
+  script_staled l old new table c p same lane number above busy goes was is later within told =
       let e = entry.Stale l (seq l) old new in
       record {
         commits = g.commits;
         joined = joined_more config entries e commits refl g.joined;
         calls = calls_more config entries e commits seq (put call l c) since (handed_calls l c same lane number);
-        answers = answers_more e refl (λ m s i r same. cc) l p (unanswered_now l live);
-        once = once_staled config entries seq phase l old new p live above g.once;
-        placements = placements_staled g.placements l old new table p was is later within none;
+        answers = answers_more e refl (λ m s i r same. cc) l p busy;
+        once = once_staled config entries seq phase l old new p busy goes above g.once;
+        placements = placements_staled g.placements l old new table p was is later within told;
+      }
+
+  -- the client of a listing is told of its directory
+  pub script_opened : (l point dir : ℕ) → phase l ≡ Tells (Opens point dir) → 0 < seq l → is_list (call l).op ≡ true
+      → Script config (entries ++ entry.Opened l (seq l) dir point ∷ []) commits placings known seq call since (put phase l (Tells (Lists point dir))) drawn
+  script_opened l point dir is above lists =
+      let e = entry.Opened l (seq l) dir point in
+      let p = Tells (Lists point dir) in
+      let busy : phase l ≢ Idle = λ idle. let none : Tells (Opens point dir) ≡ Idle = sym is ∙ idle in absurd (cc) in
+      record {
+        commits = g.commits;
+        joined = joined_more config entries e commits refl g.joined;
+        calls = calls_more config entries e commits seq call since g.calls;
+        answers = answers_more e refl (λ m s i r same. cc) l p busy;
+        once = once_opened config entries seq phase l dir point is above (subst (λ o. IsSomeAnd o (λ c. is_list c.op ≡ true)) (sym (g.calls.named l above)) lists) g.once;
+        placements = placements_opened g.placements l dir point p (λ i r told. absurd (cc));
       }

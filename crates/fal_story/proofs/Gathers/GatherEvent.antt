@@ -270,6 +270,7 @@ module _ (config : Config) (w : World) (n : ℕ) (h : Ghost) (there : n < config
     items = subst (AreSent (posts_of w.envelopes ++ letter_posts (length w.commits) letters) n) (sym a.items) (sent_more (posts_of w.envelopes) (letter_posts (length w.commits) letters) n (w.nodes n).items (s.items n));
     others_items = λ m _. s.items m;
     heard = gone_heard config w n h there other s after opened batch left g errands l.parted;
+    kept = s.kept;
     placed = placed_is;
     others_placed = λ m _. s.placed m;
   }

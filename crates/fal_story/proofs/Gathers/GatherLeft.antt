@@ -15,8 +15,8 @@ use Rattle.fal_story.proofs.Events.Elsewhere.{for_elsewhere}
 use Rattle.fal_story.proofs.Gathers.GatherHolds.{IsGrown, holds_after, others_planned}
 use Rattle.fal_story.proofs.Gathers.GatherPhases.{crossed, phase, moves_at, held_after, left_free, left_was, waits_at}
 use Rattle.fal_story.proofs.Gathers.GatherSends.{calls_after, left_call, left_cases, left_phase, phases_after}
-use Rattle.fal_story.proofs.Events.HeldCalls.{MovesAt, for_not_idle, one_node}
-use Rattle.fal_story.proofs.Events.Shows.{Ghost, Shows, Held, Heard, Holds, PlannedAt, WaitsAt, calls_in, lane_of, planned_lane}
+use Rattle.fal_story.proofs.Events.HeldCalls.{AsksNone, MovesAt, for_asks_none, for_not_idle, listed_none, one_node}
+use Rattle.fal_story.proofs.Events.Shows.{Ghost, Shows, Held, Heard, IsListed, Holds, PlannedAt, WaitsAt, calls_in, lane_of, planned_lane}
 use Rattle.fal_story.proofs.Lists.Each.{Each, each_both, each_join, each_weaker}
 use Rattle.fal_story.proofs.Lists.GatherKeys.{HasKeys}
 use Rattle.fal_story.proofs.Lists.GatherLetters.{Errand, leaver_of}
@@ -42,20 +42,29 @@ held_same call call' phase phase' n ws ps waits plans h = record {
   planned_apart = h.planned_apart;
 }
 
-heard_same : (config : Config) (call call' : ℕ → CallRec) (phase phase' : ℕ → Phase) (l : ℕ) (c : ClientState) → (plain (call' l) ≡ plain (call l)) × ((call' l).id.attempt ≡ (call l).id.attempt) → (phase l ≡ Idle → phase' l ≡ Idle) → (phase' l ≡ Idle → phase l ≡ Idle)
+heard_same : (config : Config) (call call' : ℕ → CallRec) (phase phase' : ℕ → Phase) (l : ℕ) (c : ClientState) → (plain (call' l) ≡ plain (call l)) × ((call' l).id.attempt ≡ (call l).id.attempt) → (phase l ≡ Idle → phase' l ≡ Idle) → (phase' l ≡ Idle → phase l ≡ Idle) → (phase' l ≡ phase l) ⊎ (AsksNone (phase l) × AsksNone (phase' l))
     → Heard config call phase l c → Heard config call' phase' l c
-heard_same config call call' phase phase' l c same idle busy h = record {
+heard_same config call call' phase phase' l c same idle busy lists h = record {
   lane = h.lane;
   nodes = h.nodes;
   left = h.left;
   none = λ e. idle (h.none e);
-  some = λ current e. let s = h.some current e in (λ i. s.0 (busy i), s.1 ∙ sym same.0, s.2 ∙ sym same.1, s.3);
+  some = λ current e. let s = h.some current e in (
+    λ i. s.0 (busy i),
+    s.1 ∙ sym same.0,
+    s.2 ∙ sym same.1,
+    ⊎_elim (λ e. subst (λ p. IsListed config.nodes p current.listing) (sym e) s.3) (λ y. listed_none config.nodes (phase l) (phase' l) current.listing y.0 y.1 s.3) lists,
+  );
 }
 
 -- a call that left is under way, and not planned
 left_not_idle : (x : NodeState) (call : CallRec) (to : Option ℕ) → left_phase x call to ≢ Idle
 left_not_idle x call None e = cc
 left_not_idle x call (Some m) e = cc
+
+left_asks_none : (x : NodeState) (call : CallRec) (to : Option ℕ) → AsksNone (left_phase x call to)
+left_asks_none x call None = tt
+left_asks_none x call (Some m) = tt
 
 left_not_planned : (x : NodeState) (call : CallRec) (to : Option ℕ) (n : ℕ) (p : BatchCall) → left_phase x call to ≢ Plans n p
 left_not_planned x call None n p e = cc
@@ -105,8 +114,8 @@ module _ (config : Config) (w : World) (n : ℕ) (h : Ghost) (there : n < config
 
   pub gone_moves : MovesAt n h.phase gone
   gone_moves l = ⊎_elim
-      (λ same. ⊎_elim (λ e. inl (same.1 ∙ e)) (λ y. inr (y.0, λ e. y.1 (sym same.1 ∙ e))) (moves_at config w n h there other s after opened batch left g l))
-      (λ z. inr (was_for l z.0 z.1.0 z.1.1, λ e. left_not_idle (w.nodes n) z.0.call z.0.to (sym z.1.3 ∙ e)))
+      (λ same. ⊎_elim (λ e. inl (same.1 ∙ e)) (λ y. inr (y.0, (λ e. y.1 (sym same.1 ∙ e)), subst AsksNone (sym same.1) y.2)) (moves_at config w n h there other s after opened batch left g l))
+      (λ z. inr (was_for l z.0 z.1.0 z.1.1, (λ e. left_not_idle (w.nodes n) z.0.call z.0.to (sym z.1.3 ∙ e)), subst AsksNone (sym z.1.3) (left_asks_none (w.nodes n) z.0.call z.0.to)))
       (cases l)
 
   -- ---- the coordinator, clients, and other nodes
@@ -130,6 +139,7 @@ module _ (config : Config) (w : World) (n : ℕ) (h : Ghost) (there : n < config
   gone_heard l = heard_same config h.call calls h.phase gone l (w.clients l) (same_call l)
       (λ idle. ⊎_elim (λ same. same ∙ idle) (λ y. absurd (for_not_idle n (h.phase l) y.0 idle)) (gone_moves l))
       (λ idle. ⊎_elim (λ same. sym same ∙ idle) (λ y. absurd (y.1 idle)) (gone_moves l))
+      (⊎_elim (λ same. inl same) (λ y. inr (for_asks_none n (h.phase l) y.0, y.2)) (gone_moves l))
       (s.heard l)
 
   -- a call that another node keeps stays

@@ -12,7 +12,7 @@ use Rattle.fal_wait.specs.declared.waiting_call.WaitingCall.{WaitingCall}
 use Rattle.fal_wait.specs.Waiting.{WaitList}
 use Rattle.fal_story.proofs.Gathers.Fates.{IsFate, IsUnblocked, rests_by, rests_open}
 use Rattle.fal_story.proofs.Gathers.Going.{fate_now}
-use Rattle.fal_story.proofs.Events.HeldCalls.{MovesAt}
+use Rattle.fal_story.proofs.Events.HeldCalls.{AsksNone, MovesAt}
 use Rattle.fal_story.proofs.Events.InStep.{at_seat}
 use Rattle.fal_story.proofs.Gathers.Leaving.{owner_is, unbarred}
 use Rattle.fal_story.proofs.Events.Shows.{Ghost, Shows, Held, WaitsAt, PlannedAt, view_of, lane_of, planned_lane, calls_in}
@@ -137,8 +137,8 @@ module _ (config : Config) (w : World) (n : ℕ) (h : Ghost) (there : n < config
         ⊎_elim
         (λ same. inl same)
         (λ y. ⊎_elim
-        (λ z. inr (held_for n (h.phase l) (kept_held l z), λ e. let wrong : Idle ≡ Waits n z.0.fetch = sym e ∙ z.1.2 in absurd (cc)))
-        (λ z. inr (held_for n (h.phase l) (joined_held l z), λ e. let wrong : Idle ≡ Plans n z.0 = sym e ∙ z.1.2 in absurd (cc)))
+        (λ z. inr (held_for n (h.phase l) (kept_held l z), λ e. let wrong : Idle ≡ Waits n z.0.fetch = sym e ∙ z.1.2 in absurd (cc), subst AsksNone (sym z.1.2) tt))
+        (λ z. inr (held_for n (h.phase l) (joined_held l z), λ e. let wrong : Idle ≡ Plans n z.0 = sym e ∙ z.1.2 in absurd (cc), subst AsksNone (sym z.1.2) tt))
         y)
         (listed_cases n after.calls batch h.phase l)
 

@@ -169,7 +169,7 @@ all_sent config v x commits (Asks f ∷ errands) there other apart h g =
     let one = letter_post commits (ask_letter x f.number f.key) in
     let next = record v { posts = v.posts ++ one ∷ [] } in
     let first = posted_good config v (Node to) (commits + 0) (message.FetchAsk x.number f.number f.key)
-    (record { asking = (inl there, h.0.0, h.0.2, h.0.1); records = (to, refl); operation = λ own. absurd (other own); bars = tt; knowing = tt }) g in
+    (record { asking = (inl there, h.0.0, h.0.2, h.0.1); records = (to, refl); operation = λ own. absurd (other own); bars = tt; knowing = tt; listings = tt }) g in
     subst (λ posts. Good config (record v { call = calls_after errands v.call; phase = phases_after x errands v.phase; posts = posts })) (append_assoc v.posts (one ∷ []) (posts_by commits x errands))
     (all_sent config next x commits errands there other apart h.1 first)
 all_sent config v x commits (Parts y ∷ errands) there other apart h g =

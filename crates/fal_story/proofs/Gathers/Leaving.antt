@@ -13,7 +13,6 @@ use Rattle.fal_base.specs.declared.path.PathArg.{PathArg}
 use Rattle.fal_base.specs.declared.path.PathArg.TheVariants.{Good, Bad}
 use Rattle.fal_base.specs.OpPaths.{good_names, op_names}
 use Rattle.fal_base.specs.Tree.{Tree}
-use Rattle.fal_base.specs.Walk.{walk}
 use Rattle.fal_base.specs.Walk as tree_walk
 use Rattle.fal_batch.proofs.Truth.{both_first, both_second, not_true}
 use Rattle.fal_batch.specs.Fate.{Setting, Leaves, fate, last_of, goes_by_parent, is_stale, is_elsewhere, away_to}

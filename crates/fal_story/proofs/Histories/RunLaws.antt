@@ -9,7 +9,6 @@ use Rattle.fal_base.specs.Linear.{IsLinear}
 use Rattle.fal_base.specs.Listing.{AreListings}
 use Rattle.fal_base.specs.Places.{AreOlder, ArePlaced}
 use Rattle.fal_story.proofs.Events.LegalRuns.{IsKept, legal_kept}
-use Rattle.fal_story.proofs.Trees.Unlisted.{none_listed}
 use Rattle.fal_story.specs.Run.{IsLegal, run, transcript, entries_at}
 use Rattle.fal_story.specs.World.{World}
 
@@ -18,7 +17,7 @@ linear_at config w k =
     let g = k.shows.good in
     record {
       legal = subst AreLegal g.script.joined.same g.script.commits.legal;
-      answers = λ j l s p reply call is named place names. (g.script.answers j l s p reply is).2 call named place;
+      answers = λ j l s p reply call is named place names. (g.script.answers j l s p reply is).2 call named place names;
     }
 
 -- what holds of the transcript of a legal run, where it holds of the entries of each kept world
@@ -37,9 +36,9 @@ legal_each_once config events = of_legal config events (IsEachOnce config) (λ w
 pub legal_linear : (config : Config) (events : List Event) → IsLegal config events → IsLinear config (transcript config events)
 legal_linear config events = of_legal config events (IsLinear config) (linear_at config)
 
--- no call is answered with names
+-- what is listed of a directory stood there
 pub legal_listings : (config : Config) (events : List Event) → IsLegal config events → AreListings config (transcript config events)
-legal_listings config events legal = of_legal config events (AreListings config) (λ w k. none_listed config w.entries (λ l. (w.clients l).seq) k.ghost.phase legal.cluster k.shows.good.script.answers k.shows.good.script.placements.placed) legal
+legal_listings config events = of_legal config events (AreListings config) (λ w k. k.shows.good.listings.listed)
 
 -- a client is told that it is stale only where it is, and only of changes that were made
 pub legal_older : (config : Config) (events : List Event) → IsLegal config events → AreOlder (transcript config events)

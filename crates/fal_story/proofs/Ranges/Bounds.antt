@@ -8,10 +8,11 @@ use Rattle.fal_base.specs.declared.inode.Inode.{Inode}
 use Rattle.fal_base.specs.declared.key.Key.{Key}
 use Rattle.fal_base.specs.Maps.{value_at}
 use Rattle.fal_base.specs.Tree.{IsInOrder, row_at}
+use Rattle.fal_client.specs.declared.current.Current.{Current}
 use Rattle.fal_client.specs.declared.event.ClientEvent.{ClientEvent}
 use Rattle.fal_client.specs.declared.event.ClientEvent.TheVariants as client
 use Rattle.fal_client.specs.State.{ClientState}
-use Rattle.fal_client.specs.Step.{attempt_of}
+use Rattle.fal_client.specs.Step.{attempt_of, dir_of}
 use Rattle.fal_coord.specs.declared.event.CoordEvent.{CoordEvent}
 use Rattle.fal_coord.specs.declared.event.CoordEvent.TheVariants as coord
 use Rattle.fal_node.specs.declared.event.NodeEvent.{NodeEvent}
@@ -20,11 +21,12 @@ use Rattle.fal_node.specs.declared.item.Item.{Item}
 use Rattle.fal_node.specs.State.{NodeState}
 use Rattle.fal_wire.specs.declared.message.Message.{Message}
 use Rattle.fal_wire.specs.declared.message.Message.TheVariants as message
-use Rattle.fal_wire.specs.Messages.{Fits, FieldsFit, spelling}
+use Rattle.fal_wire.specs.Messages.{FieldsFit, spelling}
 use Rattle.fal_wire.specs.Ops.{call_field}
 use Rattle.fal_wire.specs.Rows.{inode_field, dentry_field}
 use Rattle.fal_story.proofs.Lists.Each.{Each}
 use Rattle.fal_story.proofs.Ranges.CoordBounds.{IsCoordRanged}
+use Rattle.fal_story.proofs.Ranges.RecordFits.{HasDir, IsDirRanged, RecordFits}
 use Rattle.fal_story.specs.World.{World}
 
 -- the call can be spelled
@@ -37,7 +39,7 @@ pub record IsNodeRanged (x : NodeState) : Type 0 where
   pub sorted : IsInOrder x.rows
   pub replica : (key : Key) (dentry : Dentry) → value_at x.replica key ≡ Some dentry → dentry_field.Fits dentry
   pub waiting : Each (λ w. CallFits w.call) x.waiting.calls
-  pub items : Each (λ item. FieldsFit item.message) x.items
+  pub items : Each (λ item. FieldsFit item.message × HasDir item.message) x.items
   pub batches : Each (λ batch. (length batch.calls ≤ 64) × Each (λ planned. CallFits planned.call) batch.calls) x.batches
 
 -- how many operations begin to keep calls off some keys, and so cancel the pending fetches, once this item is served
@@ -60,11 +62,12 @@ pub record IsNodeCounted (events : ℕ) (x : NodeState) : Type 0 where
 
 -- the bytes of an envelope are a record
 abbrev pub IsRecord : Envelope → Type 0
-IsRecord envelope = (m : Message) × Fits m × (envelope.bytes ≡ spelling m)
+IsRecord envelope = (m : Message) × RecordFits m × (envelope.bytes ≡ spelling m)
 
--- a client tries a call anew only by a later table
-abbrev pub IsClientRanged : ClientState → Type 0
-IsClientRanged c = attempt_of c.current ≤ 1 + c.table.version
+-- a client tries a call anew only by a later table, and the directory that it lists has a number
+pub record IsClientRanged (c : ClientState) : Type 0 where
+  pub tried : attempt_of c.current ≤ 1 + c.table.version
+  pub dir : (current : Current) (dir : ℕ) → c.current ≡ Some current → dir_of current.listing ≡ Some dir → IsDirRanged dir
 
 pub record IsRanged (w : World) : Type 0 where
   pub clients : (l : ℕ) → IsClientRanged (w.clients l)

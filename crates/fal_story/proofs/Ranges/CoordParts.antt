@@ -18,7 +18,6 @@ use Rattle.fal_coord.specs.Step.{IsInRange}
 use Rattle.fal_wire.specs.declared.letter.Letter.{Letter}
 use Rattle.fal_wire.specs.declared.message.Message.{Message}
 use Rattle.fal_wire.specs.Letters.{letter, reply_letter}
-use Rattle.fal_wire.specs.Messages.{Fits}
 use Rattle.fal_wire.specs.Numbers.{operation_field}
 use Rattle.fal_wire.specs.Ops.{call_field}
 use Rattle.fal_wire.specs.Rows.{reply_field}
@@ -29,6 +28,7 @@ use Rattle.fal_story.proofs.Ranges.FateRanges.{AreDentriesRanged}
 use Rattle.fal_story.proofs.Ranges.MessageRanges.{fail_fits, id_of_call, reply_fits}
 use Rattle.fal_story.proofs.Ranges.NodeRanges.{LetterFits, letters_fit}
 use Rattle.fal_story.proofs.Ranges.OperationRecords.{operation_fits}
+use Rattle.fal_story.proofs.Ranges.RecordFits.{RecordFits}
 
 -- the step after so many events is within the ranges, and leaves the coordinator so
 pub record KeepsRanges (events : ℕ) (k : Work) : Type 0 where
@@ -71,7 +71,7 @@ keeps_same events c at = keeps_at events c c.stage [] [] at.base at.stage tt
 pub number_fits : (events : ℕ) (c : CoordState) → IsBase events c → 0 < c.operation → operation_field.Fits c.operation
 number_fits events c base some = let few = base.operation in operation_fits c.operation some (omega arith)
 
-pub all_fit : (nodes : ℕ) (m : Message) → Fits m → Each LetterFits (to_nodes nodes m)
+pub all_fit : (nodes : ℕ) (m : Message) → RecordFits m → Each LetterFits (to_nodes nodes m)
 all_fit nodes m fits = each_map LetterFits (λ node. letter (Node node) (Here 0) m) (range_with_len 0 nodes) (each_all _ (range_with_len 0 nodes) (λ node. fits))
 
 pub answer_fits : (call : CallRec) (point : Point) (answer : Reply) → call_field.Fits call → reply_field.Fits answer → LetterFits (reply_letter call point answer)

@@ -39,7 +39,7 @@ use Rattle.fal_wire.specs.declared.message.Found.TheVariants as found
 use Rattle.fal_wire.specs.declared.message.Message.{Message}
 use Rattle.fal_wire.specs.declared.message.Message.TheVariants as message
 use Rattle.fal_wire.specs.Letters.{reply_letter}
-use Rattle.fal_wire.specs.Messages.{Fits, reading}
+use Rattle.fal_wire.specs.Messages.{reading}
 use Rattle.fal_wire.specs.Names.{key_field}
 use Rattle.fal_wire.specs.Ops.{call_field}
 use Rattle.fal_wire.specs.Rows.{dentry_field, reply_field, updates_field}
@@ -57,6 +57,7 @@ use Rattle.fal_story.proofs.Ranges.NodeRanges.{LetterFits, letters_fit}
 use Rattle.fal_story.proofs.Ranges.OperationRecords.{commit_fits, count_fits, keys_fit, lock_fits, locked_fields, rows_of_updates, updates_are, updates_fit}
 use Rattle.fal_story.proofs.Ranges.PlaceRanges.{blocked_keeps, installed_keeps, placing_fits, placing_keeps}
 use Rattle.fal_story.proofs.Ranges.PlaceRecords.{ascend_apart, blocked_fields, rows_are}
+use Rattle.fal_story.proofs.Ranges.RecordFits.{RecordFits, fits_of}
 use Rattle.fal_story.proofs.Ranges.RowRanges.{op_of_call}
 
 -- ---- a walk
@@ -171,7 +172,7 @@ operation_same : (c : CoordState) (key : Key) (dentry : Dentry) → (learned c k
 unfolding learned
 operation_same c key dentry = refl
 
-found_keeps : (events : ℕ) (c : CoordState) (point number : ℕ) (call : CallRec) (key : Key) (what : Found) → IsBase events c → 0 < c.operation → IsWalked call → Fits (message.FetchGot number key what)
+found_keeps : (events : ℕ) (c : CoordState) (point number : ℕ) (call : CallRec) (key : Key) (what : Found) → IsBase events c → 0 < c.operation → IsWalked call → RecordFits (message.FetchGot number key what)
     → KeepsRanges events (found_at c point call key what)
 found_keeps events c point number call key (found.Dir dentry) base some carried fits =
     let same = operation_same c key dentry in
@@ -179,7 +180,7 @@ found_keeps events c point number call key (found.Dir dentry) base some carried 
 found_keeps events c point number call key found.Nothing base some carried fits = given_up_keeps events c call (Carried point) Enoent base carried.0
 found_keeps events c point number call key found.File base some carried fits = given_up_keeps events c call (Carried point) Enotdir base carried.0
 
-got_keeps : (events : ℕ) (c : CoordState) (point number : ℕ) (key : Key) (what : Found) (s : Stage) → IsAt events c → IsStageRanged c.operation s → Fits (message.FetchGot number key what)
+got_keeps : (events : ℕ) (c : CoordState) (point number : ℕ) (key : Key) (what : Found) (s : Stage) → IsAt events c → IsStageRanged c.operation s → RecordFits (message.FetchGot number key what)
     → KeepsRanges events (take_found c point number key what s)
 got_keeps events c point number key what (Walk call awaited wanted) at stage fits =
     elim (number == awaited) as (λ b. KeepsRanges events (cond b (found_at c point call key what) (begun c))) [
@@ -270,7 +271,7 @@ done_keeps events c number node other at stage = keeps_same events c at
 abbrev pub AreNews : CoordState → Message → Type 0
 AreNews c m = (number node : ℕ) (told : List NamedRow) → m ≡ message.Blocked number node told → AreGiven told → number ≡ c.operation → StaysFew node told c.stage
 
-message_keeps : (events : ℕ) (c : CoordState) (point : ℕ) (m : Message) → IsAt events c → Fits m → AreNews c m → KeepsRanges events (take_message c point m)
+message_keeps : (events : ℕ) (c : CoordState) (point : ℕ) (m : Message) → IsAt events c → RecordFits m → AreNews c m → KeepsRanges events (take_message c point m)
 message_keeps events c point (message.Call call) at fits news = call_keeps events c call at (call_of_record call fits)
 message_keeps events c point (message.FetchGot number key what) at fits news = got_keeps events c point number key what c.stage at at.stage fits
 message_keeps events c point (message.Locked number node rows) at fits news =
@@ -292,7 +293,7 @@ at_of events c few operation version ranged = record {
 pub hear_keeps : (events : ℕ) (c : CoordState) (e : Envelope) (k : Work) → events < 2 ^ 63 → c.operation ≤ 10000 → c.table.version ≤ 10000 → IsCoordRanged events c → IsRecord e → ((m : Message) → reading e.bytes ≡ Ok m → AreNews c m) → coord_step c (Hear e) ≡ Some k → KeepsRanges events k
 unfolding coord_step heard
 hear_keeps events c e k few operation version ranged sent news is =
-    let read : reading e.bytes ≡ Ok sent.0 = ap reading sent.2 ∙ spelled_reads sent.0 sent.1 in
+    let read : reading e.bytes ≡ Ok sent.0 = ap reading sent.2 ∙ spelled_reads sent.0 (fits_of sent.0 sent.1) in
     elim (is_to_coord e.to) as (λ b. cond b (Some (heard c e)) None ≡ Some k → KeepsRanges events k) [
       | true ↦ λ z. subst (KeepsRanges events) (same_Some (heard c e) k z)
           (subst (λ (r : Result Message WireFault). KeepsRanges events (take_read c e.point r)) (sym read) (message_keeps events c e.point sent.0 (at_of events c few operation version ranged) sent.1 (news sent.0 read)))

@@ -87,7 +87,7 @@ abbrev of_call : Commit → ℕ × ℕ
 of_call c = (c.lane, c.seq)
 
 -- each commit is of an entry and of a call
-commits_each : (config : Config) (P : Commit → Type 0) (es : List Entry)
+pub commits_each : (config : Config) (P : Commit → Type 0) (es : List Entry)
     → ((j lane seq ino : ℕ) (call : Call) → slice_get es j ≡ Some (entry.Commit lane seq ino) → call_of config lane seq ≡ Some call → P (record { lane = lane; seq = seq; cred = call.cred; op = call.op; ino = ino }))
     → Each P (commits_of config es)
 commits_each config P [] h = tt

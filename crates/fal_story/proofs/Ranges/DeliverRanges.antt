@@ -36,7 +36,7 @@ use Rattle.fal_wire.specs.declared.message.Message.{Message}
 use Rattle.fal_wire.specs.declared.message.Message.TheVariants as message
 use Rattle.fal_wire.specs.declared.letter.Letter.{Letter}
 use Rattle.fal_wire.specs.Letters.{letter}
-use Rattle.fal_wire.specs.Messages.{Fits, reading}
+use Rattle.fal_wire.specs.Messages.{reading}
 use Rattle.fal_wire.specs.Rows.{dentry_field}
 use Rattle.fal_wire.proofs.ReadingLaws.{spelled_reads}
 use Rattle.fal_story.proofs.Lists.Each.{Each, each_join}
@@ -47,6 +47,7 @@ use Rattle.fal_story.proofs.Ranges.MessageRanges.{reply_fits, call_of_record, go
 use Rattle.fal_story.proofs.Ranges.NodeRanges.{IsStart, KeepsRanges, LetterFits, within, counted_more, keeps_same}
 use Rattle.fal_story.proofs.Ranges.OperationRecords.{commit_fields, count_fields, counted_fits, done_fits, node_fits, rows_of_updates, updates_are}
 use Rattle.fal_story.proofs.Ranges.PlaceRecords.{install_fields, installed_fits, puts_fit, rows_are}
+use Rattle.fal_story.proofs.Ranges.RecordFits.{RecordFits, fits_of}
 use Rattle.fal_story.proofs.Ranges.RowCounts.{few_names, laid_ranged, laid_sorted, owned_fit}
 use Rattle.fal_story.proofs.Ranges.WaitRanges.{WaitersFit, fit_admit, fit_withouts, fit_settle, waiter_of}
 
@@ -83,7 +84,7 @@ call_keeps events x call start fits =
 -- ---- a question
 
 -- a question cancels no fetch
-ask_keeps : (events : ℕ) (x : NodeState) (m : Message) → IsStart events x → Fits m → cancels m ≡ 0 → KeepsRanges events (begun (with_item x m))
+ask_keeps : (events : ℕ) (x : NodeState) (m : Message) → IsStart events x → RecordFits m → cancels m ≡ 0 → KeepsRanges events (begun (with_item x m))
 unfolding with_item
 ask_keeps events x m start fits none =
     let few = start.few in
@@ -99,7 +100,7 @@ ask_keeps events x m start fits none =
     record {
       within = within events (begun (with_item x m)) few now tt (omega arith) start.number (omega arith) (omega arith);
       letters = tt;
-      ranged = record { rows = ranged.rows; sorted = ranged.sorted; replica = ranged.replica; waiting = ranged.waiting; items = each_join _ x.items _ ranged.items (fits.fields, tt); batches = ranged.batches };
+      ranged = record { rows = ranged.rows; sorted = ranged.sorted; replica = ranged.replica; waiting = ranged.waiting; items = each_join _ x.items _ ranged.items ((fits.fields, fits.dir), tt); batches = ranged.batches };
       counted = now;
     }
 
@@ -192,13 +193,13 @@ refuse_keeps events x point errno fetch start =
       counted = now;
     }
 
-settle_keeps : (events : ℕ) (x : NodeState) (point number : ℕ) (key : Key) (what : Found) (fetch : PendingFetch) → IsStart events x → Fits (message.FetchGot number key what)
+settle_keeps : (events : ℕ) (x : NodeState) (point number : ℕ) (key : Key) (what : Found) (fetch : PendingFetch) → IsStart events x → RecordFits (message.FetchGot number key what)
     → KeepsRanges events (settle x point key what fetch)
 settle_keeps events x point number key (found.Dir dentry) fetch start fits = learned_keeps events x fetch.number key dentry start (got_dentry number key dentry fits)
 settle_keeps events x point number key found.Nothing fetch start fits = refuse_keeps events x point Enoent fetch start
 settle_keeps events x point number key found.File fetch start fits = refuse_keeps events x point Enotdir fetch start
 
-got_keeps : (events : ℕ) (x : NodeState) (point number : ℕ) (key : Key) (what : Found) (fetch : Option PendingFetch) → IsStart events x → Fits (message.FetchGot number key what)
+got_keeps : (events : ℕ) (x : NodeState) (point number : ℕ) (key : Key) (what : Found) (fetch : Option PendingFetch) → IsStart events x → RecordFits (message.FetchGot number key what)
     → KeepsRanges events (settle_pending x point key what fetch)
 got_keeps events x point number key what None start fits = keeps_same events x start
 got_keeps events x point number key what (Some fetch) start fits = settle_keeps events x point number key what fetch start fits
@@ -206,7 +207,7 @@ got_keeps events x point number key what (Some fetch) start fits = settle_keeps 
 -- ---- operations of the coordinator
 
 -- an operation that is taken is to cancel fetches once at most
-operation_keeps : (events : ℕ) (x : NodeState) (operation : ℕ) (m : Message) → IsStart events x → Fits m → cancels m ≤ 1 → nat_lt x.last_operation operation ≡ true
+operation_keeps : (events : ℕ) (x : NodeState) (operation : ℕ) (m : Message) → IsStart events x → RecordFits m → cancels m ≤ 1 → nat_lt x.last_operation operation ≡ true
     → KeepsRanges events (begun (with_operation x operation m))
 unfolding with_operation with_item
 operation_keeps events x operation m start fits once newer =
@@ -229,14 +230,14 @@ operation_keeps events x operation m start fits once newer =
         sorted = ranged.sorted;
         replica = ranged.replica;
         waiting = ranged.waiting;
-        items = each_join _ x.items _ ranged.items (fits.fields, tt);
+        items = each_join _ x.items _ ranged.items ((fits.fields, fits.dir), tt);
         batches = ranged.batches;
       };
       counted = now;
     }
 
 -- a Lock, or a Block
-order_keeps : (events : ℕ) (x : NodeState) (operation : ℕ) (m : Message) → IsStart events x → Fits m → cancels m ≤ 1 → KeepsRanges events (begun (take_operation x operation m))
+order_keeps : (events : ℕ) (x : NodeState) (operation : ℕ) (m : Message) → IsStart events x → RecordFits m → cancels m ≤ 1 → KeepsRanges events (begun (take_operation x operation m))
 order_keeps events x operation m start fits once =
     elim (nat_lt x.last_operation operation) as (λ b. nat_lt x.last_operation operation ≡ b → KeepsRanges events (begun (cond b (with_operation x operation m) x))) [
       | true ↦ λ newer. operation_keeps events x operation m start fits once newer
@@ -258,7 +259,7 @@ told_keeps events x letter start fits =
       counted = more;
     }
 
-count_keeps : (events : ℕ) (x : NodeState) (operation dir : ℕ) → IsStart events x → Fits (message.Count operation dir) → KeepsRanges events (take_count x operation dir)
+count_keeps : (events : ℕ) (x : NodeState) (operation dir : ℕ) → IsStart events x → RecordFits (message.Count operation dir) → KeepsRanges events (take_count x operation dir)
 count_keeps events x operation dir start fits =
     let rows = start.rows in
     let few = few_names x.rows dir in
@@ -296,7 +297,7 @@ laid_keeps events x y updates letter start fits of_letter is =
       counted = now;
     })
 
-commit_keeps : (events : ℕ) (x : NodeState) (operation : ℕ) (updates : List Update) → IsStart events x → Fits (message.Commit operation updates) → KeepsRanges events (take_commit x operation updates)
+commit_keeps : (events : ℕ) (x : NodeState) (operation : ℕ) (updates : List Update) → IsStart events x → RecordFits (message.Commit operation updates) → KeepsRanges events (take_commit x operation updates)
 unfolding reopened
 commit_keeps events x operation updates start fits =
     let own = owned x.table x.number updates in
@@ -310,7 +311,7 @@ commit_keeps events x operation updates start fits =
 
 -- ---- a name that is placed
 
-named_keeps : (events : ℕ) (x : NodeState) (operation version : ℕ) (rule : Rule) (rows : List NamedRow) (name : Option (List ℕ)) → IsStart events x → Fits (message.Install operation version rule rows)
+named_keeps : (events : ℕ) (x : NodeState) (operation version : ℕ) (rule : Rule) (rows : List NamedRow) (name : Option (List ℕ)) → IsStart events x → RecordFits (message.Install operation version rule rows)
     → KeepsRanges events (install_named x operation version rule rows name)
 unfolding installed
 named_keeps events x operation version rule rows None start fits = keeps_same events x start
@@ -319,7 +320,7 @@ named_keeps events x operation version rule rows (Some name) start fits =
     laid_keeps events x (installed x (table_with x.table version name rule) (puts name rows)) (puts name rows) (letter Coord (Here 0) (message.Installed operation x.number)) start
     (puts_fit name rows (rows_are rows fields.1).fit) (installed_fits operation x.number fields.0 (node_fits x.number start.number)) refl
 
-install_keeps : (events : ℕ) (x : NodeState) (operation version : ℕ) (rule : Rule) (rows : List NamedRow) → IsStart events x → Fits (message.Install operation version rule rows)
+install_keeps : (events : ℕ) (x : NodeState) (operation version : ℕ) (rule : Rule) (rows : List NamedRow) → IsStart events x → RecordFits (message.Install operation version rule rows)
     → KeepsRanges events (take_install x operation version rule rows)
 install_keeps events x operation version rule rows start fits =
     elim (is_within x.table.nodes rule) as (λ b. KeepsRanges events (cond b (install_named x operation version rule rows (name_blocked x.blocked operation)) (begun x))) [
@@ -329,7 +330,7 @@ install_keeps events x operation version rule rows start fits =
 
 -- ---- any record
 
-message_keeps : (events : ℕ) (x : NodeState) (point : ℕ) (m : Message) → IsStart events x → Fits m → KeepsRanges events (take_message x point m)
+message_keeps : (events : ℕ) (x : NodeState) (point : ℕ) (m : Message) → IsStart events x → RecordFits m → KeepsRanges events (take_message x point m)
 message_keeps events x point (message.Call call) start fits = call_keeps events x call start (call_of_record call fits)
 message_keeps events x point (message.FetchAsk asker number key) start fits =
     elim (is_asker x.table.nodes asker) as (λ b. KeepsRanges events (begun (cond b (with_item x (message.FetchAsk asker number key)) x))) [
@@ -337,6 +338,7 @@ message_keeps events x point (message.FetchAsk asker number key) start fits =
       | false ↦ keeps_same events x start
     ]
 message_keeps events x point (message.FetchGot number key what) start fits = got_keeps events x point number key what (fetch_of x.waiting number) start fits
+message_keeps events x point (message.ListAsk id version dir) start fits = ask_keeps events x (message.ListAsk id version dir) start fits refl
 message_keeps events x point (message.Lock operation keys) start fits = order_keeps events x operation (message.Lock operation keys) start fits (omega arith)
 message_keeps events x point (message.Count operation dir) start fits = count_keeps events x operation dir start fits
 message_keeps events x point (message.Commit operation updates) start fits = commit_keeps events x operation updates start fits
@@ -347,7 +349,7 @@ message_keeps events x point other start fits = keeps_same events x start
 delivered_keeps : (events : ℕ) (x : NodeState) (e : Envelope) → IsStart events x → IsRecord e → KeepsRanges events (delivered x e)
 unfolding delivered
 delivered_keeps events x e start sent =
-    let read : reading e.bytes ≡ Ok sent.0 = ap reading sent.2 ∙ spelled_reads sent.0 sent.1 in
+    let read : reading e.bytes ≡ Ok sent.0 = ap reading sent.2 ∙ spelled_reads sent.0 (fits_of sent.0 sent.1) in
     subst (λ (r : Result Message WireFault). KeepsRanges events (take_read x e.point r)) (sym read) (message_keeps events x e.point sent.0 start sent.1)
 
 pub deliver_keeps : (events : ℕ) (x : NodeState) (e : Envelope) (work : Work) → IsStart events x → IsRecord e → node_step x (Deliver e) ≡ Some work → KeepsRanges events work

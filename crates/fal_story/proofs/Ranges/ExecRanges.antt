@@ -25,15 +25,15 @@ use Rattle.fal_node.specs.Step.{node_step}
 use Rattle.fal_story.proofs.Lists.Each.{Each, each_both, each_weaker, each_join}
 use Rattle.fal_story.proofs.Lists.Members.{each_in, each_map, find_in}
 use Rattle.fal_story.proofs.Ranges.Bounds.{CallFits, IsNodeRanged, IsNodeCounted}
+use Rattle.fal_story.proofs.Ranges.ListRecords.{opened_fits}
 use Rattle.fal_story.proofs.Ranges.MessageRanges.{call_fits, reply_fits, id_of_call, passed_fits}
 use Rattle.fal_story.proofs.Ranges.NodeRanges.{IsStart, KeepsRanges, LetterFits, within, counted_more}
 use Rattle.fal_story.proofs.Ranges.RowCounts.{after_sorted}
 use Rattle.fal_story.proofs.Ranges.RowRanges.{AreRowsRanged, IsOutRanged, change_fits, rows_ranged, call_ranged, fresh_fits}
-use Rattle.fal_story.specs.Clusters.{is_served}
 
--- a call that is planned is one that is served, was not handed on too often, and is in its ranges
+-- a call that is planned was not handed on too often, and is in its ranges
 abbrev pub IsFit : BatchCall → Type 0
-IsFit p = (is_served p.call.op ≡ true) × (p.call.id.hop ≤ 20000) × CallFits p.call
+IsFit p = (p.call.id.hop ≤ 20000) × CallFits p.call
 
 -- the work on a node when so many calls of a batch are executed
 record IsRun (x : NodeState) (k : Work) (done : ℕ) : Type 0 where
@@ -67,7 +67,7 @@ one_drawn op Remove = omega arith
 
 letter_fits : (call : CallRec) (commits : ℕ) (making : Bool) (row : Option Inode) (out : ExecOut) → IsOutRanged making row out → call.id.hop ≤ 20000 → CallFits call → LetterFits (answer_letter call commits out)
 letter_fits call commits making row (Finish reply change) out few fits = reply_fits call.id reply (id_of_call call fits) out.0
-letter_fits call commits making row (Opened ino) out few fits = absurd out
+letter_fits call commits making row (Opened ino) out few fits = opened_fits call.id ino (id_of_call call fits) out
 letter_fits call commits making row PassOn out few fits = call_fits (passed_on call) (passed_fits call few fits)
 
 run_as : (x : NodeState) (k : Work) (done : ℕ) (p : BatchCall) (outcome : ExecOut) → IsOutRanged (is_making p.call.op) (row_at k.node.rows p.last) outcome → p.call.id.hop ≤ 20000 → CallFits p.call → IsRun x k done → IsRun x (exec_as k p outcome) (suc done)
@@ -96,7 +96,7 @@ run_one x k done p number few fit run =
     let drawn = run.drawn in
     let same : k.node.number ≡ x.number = ap (λ (n : NodeState). n.number) run.node in
     run_as x k done p (call_outcome k.node.number k.node.rows k.node.drawn p)
-    (call_ranged k.node.number k.node.rows k.node.drawn p run.rows fit.0 fit.2 (fresh_fits k.node.number k.node.drawn (omega arith) (omega arith))) fit.1 fit.2 run
+    (call_ranged k.node.number k.node.rows k.node.drawn p run.rows fit.1 (fresh_fits k.node.number k.node.drawn (omega arith) (omega arith))) fit.0 fit.1 run
 
 -- ---- all of them
 
@@ -156,18 +156,18 @@ execute_found events x number (Some batch) work start fit is =
       | false ↦ λ yet e. let h = fit batch refl yet in subst (KeepsRanges events) (same_Some (executed x number batch) work e) (executed_keeps events x number batch start h.0 h.1)
     ] refl is
 
--- a call that is planned is one that is served, and was not handed on too often
-abbrev pub IsServed : BatchCall → Type 0
-IsServed p = (is_served p.call.op ≡ true) × (p.call.id.hop ≤ 20000)
+-- a call that is planned was not handed on too often
+abbrev pub HasFewHops : BatchCall → Type 0
+HasFewHops p = p.call.id.hop ≤ 20000
 
 -- the calls of a batch that is not executed are such ones
-abbrev pub AreServed : NodeState → Type 0
-AreServed x = (number : ℕ) (batch : Batch) → batch_of x number ≡ Some batch → batch.executed ≡ false → Each IsServed batch.calls
+abbrev pub HaveFewHops : NodeState → Type 0
+HaveFewHops x = (number : ℕ) (batch : Batch) → batch_of x number ≡ Some batch → batch.executed ≡ false → Each HasFewHops batch.calls
 
-pub exec_keeps : (events : ℕ) (x : NodeState) (number : ℕ) (work : Work) → IsStart events x → AreServed x → node_step x (Exec number) ≡ Some work → KeepsRanges events work
+pub exec_keeps : (events : ℕ) (x : NodeState) (number : ℕ) (work : Work) → IsStart events x → HaveFewHops x → node_step x (Exec number) ≡ Some work → KeepsRanges events work
 unfolding node_step
-exec_keeps events x number work start served is =
+exec_keeps events x number work start hops is =
     execute_found events x number (batch_of x number) work start
     (λ batch there yet.
     let h = each_in (λ (b : Batch). (length b.calls ≤ 64) × Each (λ (p : BatchCall). CallFits p.call) b.calls) x.batches batch start.ranged.batches (find_in (λ (b : Batch). b.number == number) x.batches batch there).1 in
-    (h.0, each_both IsServed _ IsFit batch.calls (λ p is fits. (is.0, is.1, fits)) (served number batch there yet) h.1)) is
+    (h.0, each_both HasFewHops _ IsFit batch.calls (λ p few fits. (few, fits)) (hops number batch there yet) h.1)) is

@@ -16,7 +16,7 @@ use Rattle.fal_base.specs.declared.rule.Rule.TheVariants as rule
 use Rattle.fal_base.specs.OpPaths.{bad_path, fault_of, paths_of}
 use Rattle.fal_base.specs.PathArgs.{IsRead}
 use Rattle.fal_story.specs.Held.{ArePathsHeld}
-use Rattle.fal_story.specs.Clusters.{IsCall, IsCallInRange, IsOpInRange, IsPathInRange, IsRuleInRange, is_served}
+use Rattle.fal_story.specs.Clusters.{IsCall, IsCallInRange, IsOpInRange, IsPathInRange, IsRuleInRange}
 use Rattle.fal_wire.specs.Format.{AreItems}
 use Rattle.fal_base.specs.Names.{is_name}
 use Rattle.fal_base.specs.Paths.{path_bytes}
@@ -71,9 +71,9 @@ path_passes names fits = (fits.1, names_pass None names fits.0.1.1)
 
 -- ---- operations
 
--- the operation is served, a bad path has the fault of its bytes, and a record can hold the operation where its path is good
-abbrev pub CanServe : Op → Type 0
-CanServe o = IsTrue (is_served o) × All IsRead (paths_of o) × (bad_path o ≡ None → op_field.Fits o)
+-- a bad path has the fault of its bytes, and a record can hold the operation where its path is good
+abbrev pub IsHeldOp : Op → Type 0
+IsHeldOp o = All IsRead (paths_of o) × (bad_path o ≡ None → op_field.Fits o)
 
 -- a bad path has the fault of its bytes, and a record can hold a good one, where the rest passed a test too
 abbrev pub IsHeld : PathArg → Bool → Type 0
@@ -89,61 +89,65 @@ bad_held fault raw rest is = (is, λ good. absurd cc)
 one_read : (path : PathArg) → IsRead path → All IsRead (path ∷ [])
 one_read path is = All-cons IsRead path [] is (All-nil IsRead)
 
-pub mkdir_is : (path : PathArg) (mode : ℕ) → IsHeld path (nat_lt mode 512) ↔ CanServe (op.Mkdir path mode)
+pub mkdir_is : (path : PathArg) (mode : ℕ) → IsHeld path (nat_lt mode 512) ↔ IsHeldOp (op.Mkdir path mode)
 unfolding bad_path op_field path_and_mode mode_field
 mkdir_is path mode = (
-  λ h. (refl, one_read path h.0, λ good. let p = h.1 good in (p.0, (grind (arith, nat_tests), p.1))),
-  λ h. (All-head IsRead path [] h.1, λ good. let p = h.2 good in (p.0, p.1.1)),
+  λ h. (one_read path h.0, λ good. let p = h.1 good in (p.0, (grind (arith, nat_tests), p.1))),
+  λ h. (All-head IsRead path [] h.0, λ good. let p = h.1 good in (p.0, p.1.1)),
 )
 
-pub create_is : (path : PathArg) (mode : ℕ) → IsHeld path (nat_lt mode 512) ↔ CanServe (op.Create path mode)
+pub create_is : (path : PathArg) (mode : ℕ) → IsHeld path (nat_lt mode 512) ↔ IsHeldOp (op.Create path mode)
 unfolding bad_path op_field path_and_mode mode_field
 create_is path mode = (
-  λ h. (refl, one_read path h.0, λ good. let p = h.1 good in (p.0, (grind (arith, nat_tests), p.1))),
-  λ h. (All-head IsRead path [] h.1, λ good. let p = h.2 good in (p.0, p.1.1)),
+  λ h. (one_read path h.0, λ good. let p = h.1 good in (p.0, (grind (arith, nat_tests), p.1))),
+  λ h. (All-head IsRead path [] h.0, λ good. let p = h.1 good in (p.0, p.1.1)),
 )
 
-pub access_is : (path : PathArg) (want : ℕ) → IsHeld path (nat_lt want 8) ↔ CanServe (op.Access path want)
+pub access_is : (path : PathArg) (want : ℕ) → IsHeld path (nat_lt want 8) ↔ IsHeldOp (op.Access path want)
 unfolding bad_path op_field path_and_want want_field
 access_is path want = (
-  λ h. (refl, one_read path h.0, λ good. let p = h.1 good in (p.0, (grind (arith, nat_tests), p.1))),
-  λ h. (All-head IsRead path [] h.1, λ good. let p = h.2 good in (p.0, p.1.1)),
+  λ h. (one_read path h.0, λ good. let p = h.1 good in (p.0, (grind (arith, nat_tests), p.1))),
+  λ h. (All-head IsRead path [] h.0, λ good. let p = h.1 good in (p.0, p.1.1)),
 )
 
-pub truncate_is : (path : PathArg) (size : ℕ) → IsHeld path (nat_lt size (2 ^ 63)) ↔ CanServe (op.Truncate path size)
+pub truncate_is : (path : PathArg) (size : ℕ) → IsHeld path (nat_lt size (2 ^ 63)) ↔ IsHeldOp (op.Truncate path size)
 unfolding bad_path op_field path_and_size size_field
 truncate_is path size = (
-  λ h. (refl, one_read path h.0, λ good. let p = h.1 good in (p.0, (grind (arith, nat_tests), p.1))),
-  λ h. (All-head IsRead path [] h.1, λ good. let p = h.2 good in (p.0, p.1.1)),
+  λ h. (one_read path h.0, λ good. let p = h.1 good in (p.0, (grind (arith, nat_tests), p.1))),
+  λ h. (All-head IsRead path [] h.0, λ good. let p = h.1 good in (p.0, p.1.1)),
 )
 
-pub stat_is : (path : PathArg) → IsHeld path true ↔ CanServe (op.Stat path)
+pub stat_is : (path : PathArg) → IsHeld path true ↔ IsHeldOp (op.Stat path)
 unfolding bad_path op_field
-stat_is path = (λ h. (refl, one_read path h.0, λ good. (h.1 good).0), λ h. (All-head IsRead path [] h.1, λ good. (h.2 good, refl)))
+stat_is path = (λ h. (one_read path h.0, λ good. (h.1 good).0), λ h. (All-head IsRead path [] h.0, λ good. (h.1 good, refl)))
 
-pub unlink_is : (path : PathArg) → IsHeld path true ↔ CanServe (op.Unlink path)
+pub list_is : (path : PathArg) → IsHeld path true ↔ IsHeldOp (op.List path)
 unfolding bad_path op_field
-unlink_is path = (λ h. (refl, one_read path h.0, λ good. (h.1 good).0), λ h. (All-head IsRead path [] h.1, λ good. (h.2 good, refl)))
+list_is path = (λ h. (one_read path h.0, λ good. (h.1 good).0), λ h. (All-head IsRead path [] h.0, λ good. (h.1 good, refl)))
 
-pub rmdir_is : (path : PathArg) → IsHeld path true ↔ CanServe (op.Rmdir path)
+pub unlink_is : (path : PathArg) → IsHeld path true ↔ IsHeldOp (op.Unlink path)
 unfolding bad_path op_field
-rmdir_is path = (λ h. (refl, one_read path h.0, λ good. (h.1 good).0), λ h. (All-head IsRead path [] h.1, λ good. (h.2 good, refl)))
+unlink_is path = (λ h. (one_read path h.0, λ good. (h.1 good).0), λ h. (All-head IsRead path [] h.0, λ good. (h.1 good, refl)))
 
-pub chmod_is : (path : PathArg) (mode : ℕ) → IsHeld path (nat_lt mode 512) ↔ CanServe (op.Chmod path mode)
+pub rmdir_is : (path : PathArg) → IsHeld path true ↔ IsHeldOp (op.Rmdir path)
+unfolding bad_path op_field
+rmdir_is path = (λ h. (one_read path h.0, λ good. (h.1 good).0), λ h. (All-head IsRead path [] h.0, λ good. (h.1 good, refl)))
+
+pub chmod_is : (path : PathArg) (mode : ℕ) → IsHeld path (nat_lt mode 512) ↔ IsHeldOp (op.Chmod path mode)
 unfolding bad_path op_field path_and_mode mode_field
 chmod_is path mode = (
-  λ h. (refl, one_read path h.0, λ good. let p = h.1 good in (p.0, (grind (arith, nat_tests), p.1))),
-  λ h. (All-head IsRead path [] h.1, λ good. let p = h.2 good in (p.0, p.1.1)),
+  λ h. (one_read path h.0, λ good. let p = h.1 good in (p.0, (grind (arith, nat_tests), p.1))),
+  λ h. (All-head IsRead path [] h.0, λ good. let p = h.1 good in (p.0, p.1.1)),
 )
 
 -- the numbers of a user and of a group are as wide as their fields
-pub chown_is : (path : PathArg) (uid gid : ℕ) → uid < 2 ^ 32 → gid < 2 ^ 32 → IsHeld path true ↔ CanServe (op.Chown path uid gid)
+pub chown_is : (path : PathArg) (uid gid : ℕ) → uid < 2 ^ 32 → gid < 2 ^ 32 → IsHeld path true ↔ IsHeldOp (op.Chown path uid gid)
 unfolding bad_path op_field path_and_owner
 chown_is path uid gid user group =
     let of_user : uid < 256 ^ 4 = omega arith in
     let of_group : gid < 256 ^ 4 = omega arith in (
-      λ h. (refl, one_read path h.0, λ good. ((h.1 good).0, (of_user, of_group))),
-      λ h. (All-head IsRead path [] h.1, λ good. ((h.2 good).0, refl)),
+      λ h. (one_read path h.0, λ good. ((h.1 good).0, (of_user, of_group))),
+      λ h. (All-head IsRead path [] h.0, λ good. ((h.1 good).0, refl)),
     )
 
 pub good_paths_held : (old new : List (List ℕ)) → ArePathsHeld (Good old) (Good new) ↔ (path_field.Fits old × path_field.Fits new)
@@ -154,11 +158,11 @@ good_paths_held old new = (λ h. h.2 refl, λ h. (tt, tt, λ good. h))
 pub bad_paths_held : (old new : PathArg) (fault : PathFault) → bad_path (op.Rename old new) ≡ Some fault → ArePathsHeld old new ↔ (IsRead old × IsRead new)
 bad_paths_held old new fault bad = (λ h. (h.0, h.1), λ h. (h.0, h.1, λ good. let wrong : ◌≡◌ {A = Option PathFault} (Some fault) None = sym bad ∙ good in absurd cc))
 
-pub rename_is : (old new : PathArg) → ArePathsHeld old new ↔ CanServe (op.Rename old new)
+pub rename_is : (old new : PathArg) → ArePathsHeld old new ↔ IsHeldOp (op.Rename old new)
 unfolding op_field two_paths
 rename_is old new = (
-  λ h. (refl, All-cons IsRead old (new ∷ []) h.0 (one_read new h.1), h.2),
-  λ h. (All-head IsRead old (new ∷ []) h.1, All-head IsRead new [] (All-tail IsRead old (new ∷ []) h.1), h.2),
+  λ h. (All-cons IsRead old (new ∷ []) h.0 (one_read new h.1), h.2),
+  λ h. (All-head IsRead old (new ∷ []) h.0, All-head IsRead new [] (All-tail IsRead old (new ∷ []) h.0), h.1),
 )
 
 rule_fits : (rule : Rule) → IsRuleInRange rule → rule_field.Fits rule
@@ -173,11 +177,11 @@ rule_passes rule.Hash fits = tt
 rule_passes rule.ByParent fits = tt
 rule_passes (rule.Node node) fits = omega arith
 
-pub place_is : (name : List ℕ) (rule : Rule) → (IsTrue (is_name name) × IsRuleInRange rule) ↔ CanServe (op.Place name rule)
+pub place_is : (name : List ℕ) (rule : Rule) → (IsTrue (is_name name) × IsRuleInRange rule) ↔ IsHeldOp (op.Place name rule)
 unfolding bad_path op_field name_and_rule name_field
 place_is name rule = (
-  λ is. (refl, All-nil IsRead, λ good. ((short_name name is.0, is.0), rule_fits rule is.1)),
-  λ h. let fits = h.2 refl in (fits.0.1, rule_passes rule fits.1),
+  λ is. (All-nil IsRead, λ good. ((short_name name is.0, is.0), rule_fits rule is.1)),
+  λ h. let fits = h.1 refl in (fits.0.1, rule_passes rule fits.1),
 )
 
 -- one thing as good as another, which is as good as a third
@@ -204,19 +208,19 @@ paths_in_range (Bad fault raw) (Bad other bytes) of_old of_new = (bad_paths_held
 low : (n most : ℕ) → n < most → nat_lt n most ≡ true
 low n most less = grind (arith, nat_tests)
 
-served_in_range : (o : Op) → IsOpInRange o → CanServe o
-served_in_range (op.Mkdir path mode) is = (mkdir_is path mode).0 (held_in_range path (nat_lt mode 512) is.0 (low mode 512 is.1))
-served_in_range (op.Create path mode) is = (create_is path mode).0 (held_in_range path (nat_lt mode 512) is.0 (low mode 512 is.1))
-served_in_range (op.Stat path) is = (stat_is path).0 (held_in_range path true is refl)
-served_in_range (op.Access path want) is = (access_is path want).0 (held_in_range path (nat_lt want 8) is.0 (low want 8 is.1))
-served_in_range (op.Truncate path size) is = (truncate_is path size).0 (held_in_range path (nat_lt size (2 ^ 63)) is.0 (low size (2 ^ 63) is.1))
-served_in_range (op.Unlink path) is = (unlink_is path).0 (held_in_range path true is refl)
-served_in_range (op.Chmod path mode) is = (chmod_is path mode).0 (held_in_range path (nat_lt mode 512) is.0 (low mode 512 is.1))
-served_in_range (op.Chown path uid gid) is = (chown_is path uid gid is.1 is.2).0 (held_in_range path true is.0 refl)
-served_in_range (op.Rmdir path) is = (rmdir_is path).0 (held_in_range path true is refl)
-served_in_range (op.Rename old new) is = (rename_is old new).0 (paths_in_range old new is.0 is.1)
-served_in_range (op.Place name rule) is = (place_is name rule).0 is
-served_in_range other is = absurd is
+op_in_range : (o : Op) → IsOpInRange o → IsHeldOp o
+op_in_range (op.Mkdir path mode) is = (mkdir_is path mode).0 (held_in_range path (nat_lt mode 512) is.0 (low mode 512 is.1))
+op_in_range (op.Create path mode) is = (create_is path mode).0 (held_in_range path (nat_lt mode 512) is.0 (low mode 512 is.1))
+op_in_range (op.Stat path) is = (stat_is path).0 (held_in_range path true is refl)
+op_in_range (op.Access path want) is = (access_is path want).0 (held_in_range path (nat_lt want 8) is.0 (low want 8 is.1))
+op_in_range (op.Truncate path size) is = (truncate_is path size).0 (held_in_range path (nat_lt size (2 ^ 63)) is.0 (low size (2 ^ 63) is.1))
+op_in_range (op.Unlink path) is = (unlink_is path).0 (held_in_range path true is refl)
+op_in_range (op.Chmod path mode) is = (chmod_is path mode).0 (held_in_range path (nat_lt mode 512) is.0 (low mode 512 is.1))
+op_in_range (op.Chown path uid gid) is = (chown_is path uid gid is.1 is.2).0 (held_in_range path true is.0 refl)
+op_in_range (op.Rmdir path) is = (rmdir_is path).0 (held_in_range path true is refl)
+op_in_range (op.Rename old new) is = (rename_is old new).0 (paths_in_range old new is.0 is.1)
+op_in_range (op.List path) is = (list_is path).0 (held_in_range path true is refl)
+op_in_range (op.Place name rule) is = (place_is name rule).0 is
 
 pub call_in_range : (call : Call) → IsCallInRange call → IsCall call
 unfolding cred_field
@@ -225,5 +229,5 @@ call_in_range call is =
     let gid_small = is.gid in
     let uid : call.cred.uid < 256 ^ 4 = omega arith in
     let gid : call.cred.gid < 256 ^ 4 = omega arith in
-    let can = served_in_range call.op is.op in
-    record { served = can.0; read = can.1; fits = λ good. ((uid, gid), can.2 good) }
+    let can = op_in_range call.op is.op in
+    record { read = can.0; fits = λ good. ((uid, gid), can.1 good) }

@@ -1,5 +1,5 @@
 -- Each event is within the ranges of the format, and keeps to them.
-use Rattle.std.proofs.Common.{◌≡◌, ⊎_elim, ℕ, ◌+◌, ◌<◌, ◌≤◌, ◌^◌, Bool, true, false, cond, List, [], ◌∷◌, length, Some, refl, sym, ap, subst, ◌∙◌, arith}
+use Rattle.std.proofs.Common.{◌≡◌, ⊎_elim, ℕ, ◌+◌, ◌<◌, ◌≤◌, ◌^◌, Bool, true, false, cond, List, [], ◌∷◌, length, Some, refl, sym, subst, arith}
 use Rattle.std.specs.Prelude.{map, IsTrue, ◌==◌}
 use Rattle.std.specs.List.{find}
 use Rattle.std.proofs.lemmas.Option.{same_Some}
@@ -27,21 +27,21 @@ use Rattle.fal_story.proofs.Events.Tables.{coord_version, own_table, own_version
 use Rattle.fal_story.proofs.Lists.Each.{Each, each_weaker, each_join, each_front, each_back}
 use Rattle.fal_story.proofs.Lists.Grown.{put_all}
 use Rattle.fal_story.proofs.Lists.Members.{each_in, in_at}
-use Rattle.fal_story.proofs.Phase.{Idle, Plans, IsFor}
+use Rattle.fal_story.proofs.Phase.{IsFor}
 use Rattle.fal_story.proofs.Ranges.Bounds.{IsClientRanged, IsRanged, IsNodeRanged, IsNodeCounted, IsRecord, Comes, ComesToClient}
 use Rattle.fal_story.proofs.Ranges.ClientRanges.{IsClient, client_of, send_keeps, get_keeps}
 use Rattle.fal_story.proofs.Ranges.CoordBounds.{IsCoordRanged}
 use Rattle.fal_story.proofs.Ranges.Counters.{few_fetches, few_calls}
 use Rattle.fal_story.proofs.Ranges.Counts.{few_commits, few_taken, few_waiting}
 use Rattle.fal_story.proofs.Ranges.DeliverRanges.{deliver_keeps}
-use Rattle.fal_story.proofs.Ranges.ExecRanges.{AreServed, IsServed, exec_keeps}
+use Rattle.fal_story.proofs.Ranges.ExecRanges.{HaveFewHops, HasFewHops, exec_keeps}
 use Rattle.fal_story.proofs.Ranges.GatherRanges.{gather_keeps}
 use Rattle.fal_story.proofs.Ranges.NodeRanges.{IsStart, IsTableRanged, KeepsRanges, LetterFits, counted_more, release_keeps, serve_keeps}
-use Rattle.fal_story.proofs.Ranges.OwnRows.{few_rows, own_parents}
+use Rattle.fal_story.proofs.Ranges.OwnRows.{few_rows, own_named, own_parents}
 use Rattle.fal_story.proofs.Ranges.PlacingCounts.{few_placings}
 use Rattle.fal_story.proofs.Ranges.TableRanges.{rules_fit}
 use Rattle.fal_story.proofs.Ranges.ClientRanges as client_ranges
-use Rattle.fal_story.specs.Clusters.{IsCluster, is_lane, is_served}
+use Rattle.fal_story.specs.Clusters.{IsCluster, is_lane}
 use Rattle.fal_story.specs.World.{World, put, posted, envelopes_of}
 
 -- ---- the world after an event whose records fit
@@ -128,6 +128,7 @@ start_of config w n h cluster there few shows ranged =
       operation = operation;
       rows = few_rows config w h cluster shows n there ranged;
       parents = own_parents config w h cluster shows n there ranged;
+      named = own_named config w h cluster shows n there ranged;
       hops = each_weaker (WaitsAt h.call h.phase n) _ (w.nodes n).waiting.calls (λ x at. subst (λ (c : CallRec). c.id.hop ≤ 20000) (sym at.1) (few_hops config w (lane_of x) n h cluster there shows (subst (IsFor n) (sym at.0) refl))) (shows.held n).waiters;
       table = table_ranged config w n h cluster there shows;
     }
@@ -143,17 +144,15 @@ calls_of_found P test (c ∷ bs) b each is yet =
       | false ↦ λ e. calls_of_found P test bs b (each_back P (pending_calls c) (calls_in bs) each) e yet
     ] is
 
--- and each of these is one that is served, and was not handed on too often
-planned_served : (config : Config) (w : World) (n : ℕ) (h : Ghost) (x : BatchCall) → IsCluster config → n < config.nodes → Shows config w h → PlannedAt h.call h.phase n x → IsServed x
-planned_served config w n h x cluster below shows at =
-    let served = shows.good.lanes.under_way.served (planned_lane x) (λ idle. let wrong : Plans n x ≡ Idle = sym at.0 ∙ idle in cc) in
-    let hops = few_hops config w (planned_lane x) n h cluster below shows (subst (IsFor n) (sym at.0) refl) in
-    (ap (λ (c : CallRec). is_served c.op) at.1 ∙ served, subst (λ (c : CallRec). c.id.hop ≤ 20000) (sym at.1) hops)
+-- and each of these was not handed on too often
+planned_hops : (config : Config) (w : World) (n : ℕ) (h : Ghost) (x : BatchCall) → IsCluster config → n < config.nodes → Shows config w h → PlannedAt h.call h.phase n x → HasFewHops x
+planned_hops config w n h x cluster below shows at =
+    subst (λ (c : CallRec). c.id.hop ≤ 20000) (sym at.1) (few_hops config w (planned_lane x) n h cluster below shows (subst (IsFor n) (sym at.0) refl))
 
-served_of : (config : Config) (w : World) (n : ℕ) (h : Ghost) → IsCluster config → n < config.nodes → Shows config w h → AreServed (w.nodes n)
-served_of config w n h cluster below shows number batch there yet =
-    calls_of_found IsServed (λ (b : Batch). b.number == number) (w.nodes n).batches batch
-    (each_weaker (PlannedAt h.call h.phase n) _ (calls_in (w.nodes n).batches) (λ x at. planned_served config w n h x cluster below shows at) (shows.held n).planned) there yet
+hops_of : (config : Config) (w : World) (n : ℕ) (h : Ghost) → IsCluster config → n < config.nodes → Shows config w h → HaveFewHops (w.nodes n)
+hops_of config w n h cluster below shows number batch there yet =
+    calls_of_found HasFewHops (λ (b : Batch). b.number == number) (w.nodes n).batches batch
+    (each_weaker (PlannedAt h.call h.phase n) _ (calls_in (w.nodes n).batches) (λ x at. planned_hops config w n h x cluster below shows at) (shows.held n).planned) there yet
 
 node_keeps : (config : Config) (w : World) (n : ℕ) (h : Ghost) (e : NodeEvent) (work : Work) → IsCluster config → n < config.nodes → w.events < 2 ^ 63 → Shows config w h → IsRanged w
     → Comes w e → node_step (w.nodes n) e ≡ Some work → KeepsRanges w.events work
@@ -162,14 +161,15 @@ node_keeps config w n h (node.Deliver envelope) work cluster there few shows ran
 node_keeps config w n h node.Gather work cluster there few shows ranged comes is =
     gather_keeps w.events (w.nodes n) work (start_of config w n h cluster there few shows ranged) is
 node_keeps config w n h (node.Exec number) work cluster there few shows ranged comes is =
-    exec_keeps w.events (w.nodes n) number work (start_of config w n h cluster there few shows ranged) (served_of config w n h cluster there shows) is
+    exec_keeps w.events (w.nodes n) number work (start_of config w n h cluster there few shows ranged) (hops_of config w n h cluster there shows) is
 node_keeps config w n h (node.Release number) work cluster there few shows ranged comes is = release_keeps w.events (w.nodes n) number work (start_of config w n h cluster there few shows ranged) is
 node_keeps config w n h (node.Serve number) work cluster there few shows ranged comes is = serve_keeps w.events (w.nodes n) number work (start_of config w n h cluster there few shows ranged) is
 
-client_keeps : (config : Config) (w : World) (l : ℕ) (h : Ghost) (e : ClientEvent) (move : ClientWork) → IsCluster config → IsClient (w.clients l) → Shows config w h
+client_keeps : (config : Config) (w : World) (l : ℕ) (h : Ghost) (e : ClientEvent) (move : ClientWork) → IsCluster config → IsClient (w.clients l) → Shows config w h → IsRanged w
     → ComesToClient w e → client_step (w.clients l) e ≡ Some move → client_ranges.KeepsRanges move
-client_keeps config w l h client.Send move cluster of shows comes is = send_keeps (w.clients l) move of is
-client_keeps config w l h (client.Get envelope) move cluster of shows comes is = get_keeps config w l comes.0 h envelope move cluster shows of comes.1 is
+client_keeps config w l h client.Send move cluster of shows ranged comes is = send_keeps (w.clients l) move of is
+client_keeps config w l h (client.Get envelope) move cluster of shows ranged comes is =
+    get_keeps config w l comes.0 h envelope move cluster shows of comes.1 (each_in IsRecord w.envelopes envelope ranged.envelopes (in_at w.envelopes comes.0 envelope comes.1)) is
 
 -- ---- both events
 
@@ -186,5 +186,5 @@ pub client_in_range : (config : Config) (w : World) (l : ℕ) (h : Ghost) (e : C
     → ComesToClient w e → client_step (w.clients l) e ≡ Some move
     → IsInRange move × IsRanged (posted config (record w { clients = put w.clients l move.client }) (Client l) (map output_of move.sent) move.notes)
 client_in_range config w l h e move cluster there shows ranged comes is =
-    let keeps = client_keeps config w l h e move cluster (client_of config w l h cluster there shows (ranged.clients l)) shows comes is in
+    let keeps = client_keeps config w l h e move cluster (client_of config w l h cluster there shows (ranged.clients l)) shows ranged comes is in
     (keeps.within, client_posts config w l move ranged keeps.ranged keeps.letters)

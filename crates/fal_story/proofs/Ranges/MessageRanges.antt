@@ -19,7 +19,7 @@ use Rattle.fal_run.specs.Letters.{passed_on}
 use Rattle.fal_wire.specs.declared.message.Found.{Found}
 use Rattle.fal_wire.specs.declared.message.Found.TheVariants.{File, Dir}
 use Rattle.fal_wire.specs.declared.message.Message.TheVariants as message
-use Rattle.fal_wire.specs.Messages.{Fits, FieldsFit, body_spelling, reply_body, fetch_ask_body, fetch_got_body}
+use Rattle.fal_wire.specs.Messages.{FieldsFit, body_spelling, reply_body, fetch_ask_body, fetch_got_body}
 use Rattle.fal_base.specs.Names.{is_name}
 use Rattle.fal_wire.specs.Names.{is_key_name, name_field, key_name_field, key_field}
 use Rattle.fal_wire.specs.Numbers.{asker_field, ino_field, id_field}
@@ -27,28 +27,29 @@ use Rattle.fal_wire.specs.Ops.{call_field}
 use Rattle.fal_wire.specs.Rows.{inode_field, dentry_field, found_field, errno_field, reply_field}
 use Rattle.fal_story.proofs.Lists.Grown.{unequal}
 use Rattle.fal_story.proofs.Ranges.FieldLengths.{call_short, reply_body_short, fetch_ask_short, fetch_got_short}
+use Rattle.fal_story.proofs.Ranges.RecordFits.{RecordFits}
 
 -- ---- the four kinds
 
-pub call_fits : (call : CallRec) → call_field.Fits call → Fits (message.Call call)
+pub call_fits : (call : CallRec) → call_field.Fits call → RecordFits (message.Call call)
 unfolding FieldsFit body_spelling
-call_fits call fits = let h = call_short.most_bytes call fits in record { fields = fits; short = omega arith }
+call_fits call fits = let h = call_short.most_bytes call fits in record { fields = fits; short = omega arith; dir = tt }
 
-pub reply_fits : (id : CallId) (reply : Reply) → id_field.Fits id → reply_field.Fits reply → Fits (message.Reply id reply)
+pub reply_fits : (id : CallId) (reply : Reply) → id_field.Fits id → reply_field.Fits reply → RecordFits (message.Reply id reply)
 unfolding FieldsFit body_spelling reply_body
-reply_fits id reply of_id of_reply = let h = reply_body_short.most_bytes (id, reply) (of_id, of_reply) in record { fields = (of_id, of_reply); short = omega arith }
+reply_fits id reply of_id of_reply = let h = reply_body_short.most_bytes (id, reply) (of_id, of_reply) in record { fields = (of_id, of_reply); short = omega arith; dir = tt }
 
-pub ask_fits : (asker number : ℕ) (key : Key) → asker_field.Fits asker → number < 2 ^ 64 → key_field.Fits key → Fits (message.FetchAsk asker number key)
+pub ask_fits : (asker number : ℕ) (key : Key) → asker_field.Fits asker → number < 2 ^ 64 → key_field.Fits key → RecordFits (message.FetchAsk asker number key)
 unfolding FieldsFit body_spelling fetch_ask_body
 ask_fits asker number key of_asker below of_key =
     let h = fetch_ask_short.most_bytes (asker, (number, key)) (of_asker, (below, of_key)) in
-    record { fields = (of_asker, (below, of_key)); short = omega arith }
+    record { fields = (of_asker, (below, of_key)); short = omega arith; dir = tt }
 
-pub got_fits : (number : ℕ) (key : Key) (what : Found) → number < 2 ^ 64 → key_field.Fits key → found_field.Fits what → Fits (message.FetchGot number key what)
+pub got_fits : (number : ℕ) (key : Key) (what : Found) → number < 2 ^ 64 → key_field.Fits key → found_field.Fits what → RecordFits (message.FetchGot number key what)
 unfolding FieldsFit body_spelling fetch_got_body
 got_fits number key what below of_key of_found =
     let h = fetch_got_short.most_bytes (number, (key, what)) (below, (of_key, of_found)) in
-    record { fields = (below, (of_key, of_found)); short = omega arith }
+    record { fields = (below, (of_key, of_found)); short = omega arith; dir = tt }
 
 -- a node may ask
 pub asker_fits : (node : ℕ) → node < 16 → asker_field.Fits node
@@ -62,7 +63,7 @@ coord_asks = (omega arith, refl)
 
 -- ---- and their fields then are
 
-pub call_of_record : (call : CallRec) → Fits (message.Call call) → call_field.Fits call
+pub call_of_record : (call : CallRec) → RecordFits (message.Call call) → call_field.Fits call
 unfolding FieldsFit
 call_of_record call fits = fits.fields
 
@@ -76,7 +77,7 @@ pub ask_fields : (asker number : ℕ) (key : Key) → FieldsFit (message.FetchAs
 unfolding FieldsFit fetch_ask_body
 ask_fields asker number key fits = record { asker_in_range = fits.0; number_in_range = fits.1.0; key_in_range = fits.1.1 }
 
-pub got_dentry : (number : ℕ) (key : Key) (dentry : Dentry) → Fits (message.FetchGot number key (Dir dentry)) → dentry_field.Fits dentry
+pub got_dentry : (number : ℕ) (key : Key) (dentry : Dentry) → RecordFits (message.FetchGot number key (Dir dentry)) → dentry_field.Fits dentry
 unfolding FieldsFit fetch_got_body found_field
 got_dentry number key dentry fits = fits.fields.1.1
 

@@ -2,48 +2,56 @@
 use Rattle.std.proofs.Common.{◌≡◌, ℕ, ◌+◌, ◌<◌, ◌≤◌, ◌^◌, IsSome, true, false, cond, List, [], ◌∷◌, length, Option, Some, None, refl, sym, subst, arith}
 use Rattle.std.specs.Prelude.{◌==◌}
 use Rattle.std.specs.List.{All}
+use Rattle.std.proofs.lemmas.Bool.Decides.{nat_tests}
 use Rattle.std.proofs.lemmas.Option.{same_Some}
-use Rattle.fal_base.specs.declared.event.Actor.TheVariants.{Node}
+use Rattle.fal_base.specs.declared.call.CallId.{CallId}
+use Rattle.fal_base.specs.declared.event.Actor.TheVariants.{Client, Node}
 use Rattle.fal_base.specs.declared.event.Point.TheVariants.{Here}
 use Rattle.fal_base.specs.declared.key.Key.{Key}
-use Rattle.fal_base.specs.Tree.{row_at}
-use Rattle.fal_duty.specs.Duties.{fetched_of, found_of, rows_of}
+use Rattle.fal_base.specs.Tree.{names_under, row_at}
+use Rattle.fal_duty.specs.Duties.{fetched_of, found_of, part_of, rows_of}
 use Rattle.fal_node.specs.declared.batch.Batch.{Batch}
 use Rattle.fal_node.specs.declared.event.NodeEvent.TheVariants.{Release, Serve}
 use Rattle.fal_node.specs.declared.item.Item.{Item}
 use Rattle.fal_wire.specs.declared.letter.Letter.{Letter}
 use Rattle.fal_node.specs.Letters.{Work, begun, asker_of}
 use Rattle.fal_run.specs.Letters.{commits_in}
-use Rattle.fal_node.specs.Serve.{owns, can_serve, fetch_letter, fetch_service, lock_service, block_service, blocking, service_of, served_as, shutting, served, serve}
+use Rattle.fal_node.specs.Serve.{owns, can_serve, fetch_letter, fetch_service, lock_service, block_service, blocking, is_behind, list_letter, list_service, service_of, served_as, shutting, served, serve}
 use Rattle.fal_node.specs.State.{NodeState, batch_of, item_of, without_item, released}
 use Rattle.fal_node.specs.Step.{IsWithin, node_step, release, only_if}
 use Rattle.fal_inode.specs.Named.{rows_named}
-use Rattle.fal_place.specs.Placement.{Placement, owner}
+use Rattle.fal_place.specs.Placement.{Placement, changes_since, owner}
 use Rattle.fal_wait.specs.Lists.{without_first}
 use Rattle.fal_wire.specs.declared.message.Message.{Message}
 use Rattle.fal_wire.specs.declared.message.Message.TheVariants as message
 use Rattle.fal_wire.specs.Messages.{Fits, FieldsFit}
 use Rattle.fal_wire.specs.Letters.{letter}
+use Rattle.fal_wire.specs.Numbers.{id_field}
 use Rattle.fal_wire.specs.Rows.{changes_field}
-use Rattle.fal_story.proofs.Lists.Each.{Each}
+use Rattle.fal_story.proofs.Lists.Each.{Each, each_weaker}
 use Rattle.fal_story.proofs.Lists.EachAll.{all_of_each}
 use Rattle.fal_story.proofs.Lists.Members.{each_in, find_in, same_number, each_without_first}
 use Rattle.fal_story.proofs.Ranges.Bounds.{IsNodeRanged, IsNodeCounted, cancels, cancelling}
 use Rattle.fal_story.proofs.Ranges.CoordWalks.{without_ranged}
 use Rattle.fal_story.proofs.Ranges.Counters.{cancelling_found}
 use Rattle.fal_story.proofs.Ranges.GivenRows.{left_ranged, left_sorted, named_ascend, named_fit, named_most}
+use Rattle.fal_story.proofs.Ranges.ListRecords.{list_ask_id, part_fits}
 use Rattle.fal_story.proofs.Ranges.MessageRanges.{ask_fits, got_fits, ask_fields, found_fits}
+use Rattle.fal_story.proofs.Ranges.NamesUnder.{names_under_items}
 use Rattle.fal_story.proofs.Ranges.OperationRecords.{keys_are, lock_fields, locked_fits, node_fits, updates_fit}
 use Rattle.fal_story.proofs.Ranges.PlaceRecords.{block_fields, blocked_fits}
-use Rattle.fal_story.proofs.Ranges.RowCounts.{few_told, rows_told}
+use Rattle.fal_story.proofs.Ranges.RecordFits.{HasDir, RecordFits, fits_of}
+use Rattle.fal_story.proofs.Ranges.RowCounts.{few_names, few_told, rows_told}
+use Rattle.fal_story.proofs.Ranges.StaleRecords.{since_fits, stale_fits}
+use Rattle.fal_story.proofs.Ranges.TreeNames.{IsNamedKey}
 use Rattle.fal_story.proofs.Ranges.WaitRanges.{fit_cancel}
 
 -- the record can be spelled
 abbrev pub LetterFits : Letter → Type 0
-LetterFits letter = Fits letter.message
+LetterFits letter = RecordFits letter.message
 
 pub letters_fit : (letters : List Letter) → Each LetterFits letters → All (λ letter. Fits letter.message) letters
-letters_fit letters fits = all_of_each LetterFits letters fits
+letters_fit letters fits = all_of_each (λ (letter : Letter). Fits letter.message) letters (each_weaker LetterFits _ letters (λ letter fit. fits_of letter.message fit) fits)
 
 -- the rules of a table can be spelled, and at most 10,000 were made
 pub record IsTableRanged (table : Placement) : Type 0 where
@@ -65,6 +73,7 @@ pub record IsStart (events : ℕ) (x : NodeState) : Type 0 where
   pub operation : x.last_operation ≤ 10000
   pub rows : length x.rows ≤ 10003
   pub parents : (key : Key) → IsSome (row_at x.rows key) → key.parent < 256 ^ 8
+  pub named : (key : Key) → IsSome (row_at x.rows key) → IsNamedKey key
   pub hops : Each (λ w. w.call.id.hop ≤ 20000) x.waiting.calls
   pub table : IsTableRanged x.table
 
@@ -220,18 +229,57 @@ block_keeps events x number operation name start fits gone =
       counted = now;
     }
 
-service_keeps : (events : ℕ) (x : NodeState) (number : ℕ) (m : Message) → IsStart events x → FieldsFit m → IsGone x number m → (service_of x m).can ≡ true → KeepsRanges events (served_as (service_of x m) number)
-service_keeps events x number (message.FetchAsk asker fetch key) start fits gone can = fetch_keeps events x number asker fetch key start fits gone
-service_keeps events x number (message.Lock operation keys) start fits gone can = lock_keeps events x number operation keys start fits gone
-service_keeps events x number (message.Block operation name) start fits gone can = block_keeps events x number operation name start fits gone
-service_keeps events x number other start fits gone can = absurd (cc)
+-- the client is told of a later table, or the names under a directory that has a number
+list_letter_fits : (x : NodeState) (id : CallId) (version dir : ℕ) → IsNodeRanged x → x.number < 16 → length x.rows ≤ 10003 → ((key : Key) → IsSome (row_at x.rows key) → IsNamedKey key) → IsTableRanged x.table → id_field.Fits id → 0 < dir
+    → LetterFits (list_letter x id version dir)
+list_letter_fits x id version dir ranged number few named table of_id some =
+    let few_under = few_names x.rows dir in
+    elim (is_behind x version) as (λ b. is_behind x version ≡ b → LetterFits (letter (Client id.client) (Here 0) (cond b (message.Stale id version x.table.version (changes_since version x.table)) (part_of x.rows x.number id dir)))) [
+      | true ↦ λ behind. stale_fits id version x.table.version (changes_since version x.table) of_id (grind (arith, nat_tests)) table.version (since_fits version x.table table.rules)
+      | false ↦ λ _. part_fits id x.number (names_under x.rows dir) of_id (node_fits x.number number) (omega arith) (names_under_items x.rows dir some ranged.sorted named)
+    ] refl
 
-serve_found : (events : ℕ) (x : NodeState) (item : Option Item) (work : Work) → IsStart events x → ((i : Item) → item ≡ Some i → FieldsFit i.message × IsGone x i.number i.message) → serve x item ≡ Some work → KeepsRanges events work
+list_keeps : (events : ℕ) (x : NodeState) (number : ℕ) (id : CallId) (version dir : ℕ) → IsStart events x → FieldsFit (message.ListAsk id version dir) → 0 < dir → IsGone x number (message.ListAsk id version dir)
+    → KeepsRanges events (served_as (list_service x id version dir) number)
+unfolding without_item
+list_keeps events x number id version dir start fits some gone =
+    let few = start.few in
+    let drawn = start.drawn in
+    let opened = start.opened in
+    let ranged = start.ranged in
+    let more = counted_more events x start.counted in
+    let fetches = more.fetches in
+    let letters : Each LetterFits (list_letter x id version dir ∷ []) =
+    (list_letter_fits x id version dir ranged start.number start.rows start.named start.table (list_ask_id id version dir fits) some, tt) in
+    let work = served_as (list_service x id version dir) number in
+    let now : IsNodeCounted (events + 1) (without_item x number) = record { tickets = more.tickets; items = more.items; batches = more.batches; fetches = omega arith } in
+    record {
+      within = within events work few now letters (omega arith) start.number (omega arith) (omega arith);
+      letters = letters;
+      ranged = record {
+        rows = ranged.rows;
+        sorted = ranged.sorted;
+        replica = ranged.replica;
+        waiting = ranged.waiting;
+        items = each_without_first _ _ x.items ranged.items;
+        batches = ranged.batches;
+      };
+      counted = now;
+    }
+
+service_keeps : (events : ℕ) (x : NodeState) (number : ℕ) (m : Message) → IsStart events x → FieldsFit m → HasDir m → IsGone x number m → (service_of x m).can ≡ true → KeepsRanges events (served_as (service_of x m) number)
+service_keeps events x number (message.FetchAsk asker fetch key) start fits dir gone can = fetch_keeps events x number asker fetch key start fits gone
+service_keeps events x number (message.ListAsk id version at) start fits dir gone can = list_keeps events x number id version at start fits dir gone
+service_keeps events x number (message.Lock operation keys) start fits dir gone can = lock_keeps events x number operation keys start fits gone
+service_keeps events x number (message.Block operation name) start fits dir gone can = block_keeps events x number operation name start fits gone
+service_keeps events x number other start fits dir gone can = absurd (cc)
+
+serve_found : (events : ℕ) (x : NodeState) (item : Option Item) (work : Work) → IsStart events x → ((i : Item) → item ≡ Some i → FieldsFit i.message × HasDir i.message × IsGone x i.number i.message) → serve x item ≡ Some work → KeepsRanges events work
 unfolding served
 serve_found events x None work start fits is = absurd (cc)
 serve_found events x (Some item) work start fits is =
     elim (can_serve x item.message) as (λ b. can_serve x item.message ≡ b → cond b (Some (served x item)) None ≡ Some work → KeepsRanges events work) [
-      | true ↦ λ can e. let h = fits item refl in subst (KeepsRanges events) (same_Some (served x item) work e) (service_keeps events x item.number item.message start h.0 h.1 can)
+      | true ↦ λ can e. let h = fits item refl in subst (KeepsRanges events) (same_Some (served x item) work e) (service_keeps events x item.number item.message start h.0 h.1 h.2 can)
       | false ↦ λ _ e. absurd (cc)
     ] refl is
 
@@ -242,8 +290,10 @@ serve_keeps events x number work start is =
     (λ item there.
     let test = λ (i : Item). i.number == number in
     let found = find_in test x.items item there in
-    let at : item.number ≡ number = same_number item.number number found.0 in (
-      each_in (λ (i : Item). FieldsFit i.message) x.items item start.ranged.items found.1,
+    let at : item.number ≡ number = same_number item.number number found.0 in
+    let fit = each_in (λ (i : Item). FieldsFit i.message × HasDir i.message) x.items item start.ranged.items found.1 in (
+      fit.0,
+      fit.1,
       subst (λ n. IsGone x n item.message) (sym at) (cancelling_found test x.items item there),
     )) is
 

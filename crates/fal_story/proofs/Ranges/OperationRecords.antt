@@ -9,13 +9,14 @@ use Rattle.fal_base.specs.declared.row.Update.{Update}
 use Rattle.fal_batch.proofs.Truth.{both, both_second}
 use Rattle.fal_wire.specs.declared.message.Message.TheVariants as message
 use Rattle.fal_wire.specs.Format.{AreItems}
-use Rattle.fal_wire.specs.Messages.{Fits, FieldsFit, body_spelling, lock_body, locked_body, count_body, counted_body, commit_body, done_body}
+use Rattle.fal_wire.specs.Messages.{FieldsFit, body_spelling, lock_body, locked_body, count_body, counted_body, commit_body, done_body}
 use Rattle.fal_wire.specs.Names.{key_field}
 use Rattle.fal_wire.specs.Numbers.{node_field, operation_field, one_or_two, at_most_two}
 use Rattle.fal_wire.specs.Rows.{row_field, update_field, keys_field, updates_field}
 use Rattle.fal_story.proofs.Lists.Each.{Each}
 use Rattle.fal_story.proofs.Ranges.CoordBounds.{RowsFit}
 use Rattle.fal_story.proofs.Ranges.FieldLengths.{IsShort, byte_short, number_short, judged_short, both_short, shaped_short, key_short, inode_short}
+use Rattle.fal_story.proofs.Ranges.RecordFits.{RecordFits}
 
 -- ---- fields
 
@@ -178,35 +179,35 @@ done_short = both_short operation_short node_short
 
 -- ---- the six kinds
 
-pub lock_fits : (number : ℕ) (keys : List Key) → operation_field.Fits number → keys_field.Fits keys → Fits (message.Lock number keys)
+pub lock_fits : (number : ℕ) (keys : List Key) → operation_field.Fits number → keys_field.Fits keys → RecordFits (message.Lock number keys)
 unfolding FieldsFit body_spelling lock_body
-lock_fits number keys of_number of_keys = let h = lock_short.most_bytes (number, keys) (of_number, of_keys) in record { fields = (of_number, of_keys); short = omega arith }
+lock_fits number keys of_number of_keys = let h = lock_short.most_bytes (number, keys) (of_number, of_keys) in record { fields = (of_number, of_keys); short = omega arith; dir = tt }
 
-pub locked_fits : (number node : ℕ) (rows : List Update) → operation_field.Fits number → node_field.Fits node → updates_field.Fits rows → Fits (message.Locked number node rows)
+pub locked_fits : (number node : ℕ) (rows : List Update) → operation_field.Fits number → node_field.Fits node → updates_field.Fits rows → RecordFits (message.Locked number node rows)
 unfolding FieldsFit body_spelling locked_body
 locked_fits number node rows of_number of_node of_rows =
     let h = locked_short.most_bytes (number, (node, rows)) (of_number, (of_node, of_rows)) in
-    record { fields = (of_number, (of_node, of_rows)); short = omega arith }
+    record { fields = (of_number, (of_node, of_rows)); short = omega arith; dir = tt }
 
-pub count_fits : (number dir : ℕ) → operation_field.Fits number → dir < 2 ^ 64 → Fits (message.Count number dir)
+pub count_fits : (number dir : ℕ) → operation_field.Fits number → dir < 2 ^ 64 → RecordFits (message.Count number dir)
 unfolding FieldsFit body_spelling count_body
-count_fits number dir of_number below = let h = count_short.most_bytes (number, dir) (of_number, below) in record { fields = (of_number, below); short = omega arith }
+count_fits number dir of_number below = let h = count_short.most_bytes (number, dir) (of_number, below) in record { fields = (of_number, below); short = omega arith; dir = tt }
 
-pub counted_fits : (number node count : ℕ) → operation_field.Fits number → node_field.Fits node → count < 2 ^ 64 → Fits (message.Counted number node count)
+pub counted_fits : (number node count : ℕ) → operation_field.Fits number → node_field.Fits node → count < 2 ^ 64 → RecordFits (message.Counted number node count)
 unfolding FieldsFit body_spelling counted_body
 counted_fits number node count of_number of_node below =
     let h = counted_short.most_bytes (number, (node, count)) (of_number, (of_node, below)) in
-    record { fields = (of_number, (of_node, below)); short = omega arith }
+    record { fields = (of_number, (of_node, below)); short = omega arith; dir = tt }
 
-pub commit_fits : (number : ℕ) (updates : List Update) → operation_field.Fits number → updates_field.Fits updates → Fits (message.Commit number updates)
+pub commit_fits : (number : ℕ) (updates : List Update) → operation_field.Fits number → updates_field.Fits updates → RecordFits (message.Commit number updates)
 unfolding FieldsFit body_spelling commit_body
 commit_fits number updates of_number of_updates =
     let h = commit_short.most_bytes (number, updates) (of_number, of_updates) in
-    record { fields = (of_number, of_updates); short = omega arith }
+    record { fields = (of_number, of_updates); short = omega arith; dir = tt }
 
-pub done_fits : (number node : ℕ) → operation_field.Fits number → node_field.Fits node → Fits (message.Done number node)
+pub done_fits : (number node : ℕ) → operation_field.Fits number → node_field.Fits node → RecordFits (message.Done number node)
 unfolding FieldsFit body_spelling done_body
-done_fits number node of_number of_node = let h = done_short.most_bytes (number, node) (of_number, of_node) in record { fields = (of_number, of_node); short = omega arith }
+done_fits number node of_number of_node = let h = done_short.most_bytes (number, node) (of_number, of_node) in record { fields = (of_number, of_node); short = omega arith; dir = tt }
 
 -- ---- and their fields then are
 

@@ -1,29 +1,31 @@
 -- The rows of a node are the tree's, or are still to be removed by an operation that is decided.
-use Rattle.std.proofs.Common.{◌≡◌, ◌⊎◌, inl, inr, ⊎_elim, ℕ, ◌<◌, ◌≤◌, ◌^◌, ◌==◌, ◌||◌, Bool, true, false, cond, List, [], ◌∷◌, ◌++◌, length, Option, Some, None, refl, sym, ap, ◌∙◌, subst, arith}
+use Rattle.std.proofs.Common.{◌≡◌, ◌⊎◌, inl, inr, ⊎_elim, ℕ, ◌<◌, ◌≤◌, ◌^◌, ◌==◌, ◌||◌, ◌&&◌, Bool, true, false, not, cond, List, [], ◌∷◌, ◌++◌, length, Option, Some, None, refl, sym, ap, ◌∙◌, subst, arith}
 use Rattle.std.specs.Prelude.{is_some, IsSome}
 use Rattle.std.proofs.lemmas.List.{length-append, length-map}
 use Rattle.fal_base.specs.declared.call.Config.{Config}
 use Rattle.fal_base.specs.declared.inode.Inode.{Inode}
 use Rattle.fal_base.specs.declared.key.Key.{Key}
 use Rattle.fal_base.specs.declared.row.Update.{Update}
-use Rattle.fal_base.specs.Tree.{Tree, row_at, same_key}
+use Rattle.fal_base.specs.Names.{is_name}
+use Rattle.fal_base.specs.Tree.{Tree, row_at, root_key, same_key}
 use Rattle.fal_base.specs.Updates.{keys_of}
 use Rattle.fal_base.proofs.Maps.{same_key_is}
 use Rattle.fal_base.proofs.Updates.{laid_off}
+use Rattle.fal_batch.proofs.Truth.{both_second}
 use Rattle.fal_coord.specs.declared.stage.Stage.{Stage}
 use Rattle.fal_coord.specs.declared.stage.Stage.TheVariants as stage
 use Rattle.fal_dentry.specs.Walk.{is_among}
 use Rattle.fal_locks.specs.declared.holder.Shut.{Shut}
 use Rattle.fal_place.specs.Placement.{Placement, owner}
 use Rattle.fal_wire.specs.declared.message.Message.{Message}
-use Rattle.fal_wire.specs.Names.{key_field}
+use Rattle.fal_wire.specs.Names.{is_key_name, key_field, key_name_field}
 use Rattle.fal_wire.specs.Rows.{updates_field}
 use Rattle.fal_story.proofs.Events.Doing.{work_of}
 use Rattle.fal_story.proofs.Events.Shows.{Ghost, Shows, before_in, barred_of}
 use Rattle.fal_story.proofs.Families.Operation.{Stands}
 use Rattle.fal_story.proofs.Families.Script.{IsDrawn}
 use Rattle.fal_story.proofs.Lists.Each.{Each, each_weaker}
-use Rattle.fal_story.proofs.Lists.Members.{IsIn, each_in, each_map, in_back, in_front}
+use Rattle.fal_story.proofs.Lists.Members.{IsIn, each_in, each_map, in_back, in_front, same_number}
 use Rattle.fal_story.proofs.Ranges.Bounds.{IsRanged}
 use Rattle.fal_story.proofs.Ranges.CoordBounds.{IsStageRanged}
 use Rattle.fal_story.proofs.Ranges.Counts.{few_commits}
@@ -31,6 +33,7 @@ use Rattle.fal_story.proofs.Ranges.NoMore.{no_more}
 use Rattle.fal_story.proofs.Ranges.OperationRecords.{UpdateFits, updates_are, updates_fit}
 use Rattle.fal_story.proofs.Ranges.RowCounts.{entry_at, keys_differ}
 use Rattle.fal_story.proofs.Ranges.TreeBounds.{keys_in, stands_in, tree_most}
+use Rattle.fal_story.proofs.Ranges.TreeNames.{IsNamedKey, tree_named}
 use Rattle.fal_story.proofs.Ranges.TreeNumbers.{AreBelow, tree_low}
 use Rattle.fal_story.proofs.Steps.Reads.{IsFree, due_free}
 use Rattle.fal_story.proofs.Trees.Laid.{owned_among}
@@ -89,6 +92,18 @@ parent_fits key fits = fits.0
 key_of_update : (updates : List Update) (key : Key) → Each UpdateFits updates → IsIn key (keys_of updates) → key_field.Fits key
 key_of_update updates key fits among = each_in key_field.Fits (keys_of updates) key (each_map key_field.Fits (λ (u : Update). u.key) updates (each_weaker UpdateFits _ updates (λ u h. h.0) fits)) among
 
+name_is : (key : Key) → key_field.Fits key → IsNamedKey key
+unfolding key_field key_name_field is_key_name
+name_is key fits =
+    elim (length key.name == 0) as (λ b. (length key.name == 0) ≡ b → cond b (key.parent == 0) (not (key.parent == 0) && is_name key.name) ≡ true → IsNamedKey key) [
+      | true ↦ λ none at. inl (root_is key.parent key.name (same_number key.parent 0 at) (same_number (length key.name) 0 none))
+      | false ↦ λ _ is. inr (both_second (not (key.parent == 0)) (is_name key.name) is)
+    ] refl fits.1.1
+  where
+    root_is : (parent : ℕ) (name : List ℕ) → parent ≡ 0 → length name ≡ 0 → record { parent = parent; name = name } ≡ root_key
+    root_is parent [] at none = ap (λ p. record { parent = p; name = [] }) at
+    root_is parent (b ∷ name) at none = absurd (omega arith)
+
 -- a number that was drawn by so few is small
 drawn_low : (drawn : ℕ → ℕ) (ino : ℕ) → ((n : ℕ) → drawn n ≤ 10000) → IsDrawn drawn ino → ino < 256 ^ 8
 drawn_low drawn ino few is = ⊎_elim {C = ino < 256 ^ 8} (λ none. omega arith) (λ x. let most = few x.0 in let node = x.1.1 in let less = x.1.2 in let same = x.1.3 in omega arith) is
@@ -111,6 +126,14 @@ module _ (config : Config) (w : World) (h : Ghost) (cluster : IsCluster config) 
   now_parents key some =
       let low = tree_low (256 ^ 8) w.commits (omega arith) numbers_low in
       elim (row_at now key) as (λ (o : Option Inode). row_at now key ≡ o → IsSome o → key.parent < 256 ^ 8) [ None ↦ λ _ none. absurd (cc) | Some row ↦ λ there _. low.parents key row there ] refl some
+
+  -- and under a key that has a name, or the root's
+  pub now_named : (key : Key) → IsSome (row_at now key) → IsNamedKey key
+  now_named key some =
+      elim (row_at now key) as (λ (o : Option Inode). row_at now key ≡ o → IsSome o → IsNamedKey key) [
+        | None ↦ λ _ none. absurd (cc)
+        | Some row ↦ λ there _. tree_named config w.entries w.commits cluster shows.good.script.joined.same shows.good.script.commits.legal key row there
+      ] refl some
 
   -- a node's row is the tree's, or one that the operation changes
   own_row : (n : ℕ) (key : Key) → n < config.nodes → IsSome (row_at (w.nodes n).rows key) → IsSome (row_at now key) ⊎ (is_among key (keys_of (decided_updates w.coord.stage)) ≡ true)
@@ -151,4 +174,14 @@ module _ (config : Config) (w : World) (h : Ghost) (cluster : IsCluster config) 
       ⊎_elim {C = key.parent < 256 ^ 8}
       (λ stands. now_parents key stands)
       (λ told. parent_fits key (key_of_update updates key fit (among_in key (keys_of updates) told)))
+      (own_row n key there some)
+
+  -- and under keys that have names, but for the root's
+  pub own_named : (n : ℕ) → n < config.nodes → IsRanged w → (key : Key) → IsSome (row_at (w.nodes n).rows key) → IsNamedKey key
+  own_named n there ranged key some =
+      let updates = decided_updates w.coord.stage in
+      let fit = (updates_are updates (decided_fit w.coord.operation w.coord.stage ranged.coord.stage)).fit in
+      ⊎_elim {C = IsNamedKey key}
+      (λ stands. now_named key stands)
+      (λ told. name_is key (key_of_update updates key fit (among_in key (keys_of updates) told)))
       (own_row n key there some)

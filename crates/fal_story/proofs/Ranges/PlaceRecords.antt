@@ -8,7 +8,7 @@ use Rattle.fal_base.specs.declared.rule.Rule.{Rule}
 use Rattle.fal_inode.specs.Named.{puts}
 use Rattle.fal_wire.specs.declared.message.Message.TheVariants as message
 use Rattle.fal_wire.specs.Format.{AreItems, number}
-use Rattle.fal_wire.specs.Messages.{Fits, FieldsFit, body_spelling, block_body, blocked_body, install_body, done_body}
+use Rattle.fal_wire.specs.Messages.{FieldsFit, body_spelling, block_body, blocked_body, install_body, done_body}
 use Rattle.fal_wire.specs.Names.{name_field}
 use Rattle.fal_wire.specs.Numbers.{node_field, operation_field, version_field}
 use Rattle.fal_wire.specs.Rows.{inode_field, row_field, next_parent, next_row, rows_field, rule_field}
@@ -16,6 +16,7 @@ use Rattle.fal_story.proofs.Lists.Each.{Each, Apart, each_weaker}
 use Rattle.fal_story.proofs.Ranges.CoordBounds.{AreGiven, NamedRowFits, RowsFit}
 use Rattle.fal_story.proofs.Ranges.FieldLengths.{IsShort, number_short, judged_short, both_short, inode_short, name_short, rule_short}
 use Rattle.fal_story.proofs.Ranges.OperationRecords.{done_short, operation_short, node_short}
+use Rattle.fal_story.proofs.Ranges.RecordFits.{RecordFits}
 
 -- ---- rows of a name
 
@@ -125,11 +126,11 @@ block_short = both_short operation_short name_short
 
 -- ---- the four kinds
 
-pub block_fits : (number : ℕ) (name : List ℕ) → operation_field.Fits number → name_field.Fits name → Fits (message.Block number name)
+pub block_fits : (number : ℕ) (name : List ℕ) → operation_field.Fits number → name_field.Fits name → RecordFits (message.Block number name)
 unfolding FieldsFit body_spelling block_body
-block_fits number name of_number of_name = let h = block_short.most_bytes (number, name) (of_number, of_name) in record { fields = (of_number, of_name); short = omega arith }
+block_fits number name of_number of_name = let h = block_short.most_bytes (number, name) (of_number, of_name) in record { fields = (of_number, of_name); short = omega arith; dir = tt }
 
-pub blocked_fits : (number node : ℕ) (rows : List NamedRow) → operation_field.Fits number → node_field.Fits node → length rows ≤ 100000 → Each NamedRowFits rows → DoAscend rows → Fits (message.Blocked number node rows)
+pub blocked_fits : (number node : ℕ) (rows : List NamedRow) → operation_field.Fits number → node_field.Fits node → length rows ≤ 100000 → Each NamedRowFits rows → DoAscend rows → RecordFits (message.Blocked number node rows)
 unfolding FieldsFit body_spelling blocked_body
 blocked_fits number node rows of_number of_node few fits ascend =
     let first = operation_short.most_bytes number of_number in
@@ -137,10 +138,10 @@ blocked_fits number node rows of_number of_node few fits ascend =
     let third = rows_most rows few fits in
     let last = length-append (node_field.spell node) (rows_field.spell rows) in
     let all = length-append (operation_field.spell number) ((node_field.spell node) ++ (rows_field.spell rows)) in
-    record { fields = (of_number, (of_node, rows_fit rows few fits ascend)); short = omega arith }
+    record { fields = (of_number, (of_node, rows_fit rows few fits ascend)); short = omega arith; dir = tt }
 
 pub install_fits : (number version : ℕ) (rule : Rule) (rows : List NamedRow) → operation_field.Fits number → version_field.Fits version → rule_field.Fits rule → length rows ≤ 100000 → Each NamedRowFits rows → DoAscend rows
-    → Fits (message.Install number version rule rows)
+    → RecordFits (message.Install number version rule rows)
 unfolding FieldsFit body_spelling install_body
 install_fits number version rule rows of_number of_version of_rule few fits ascend =
     let first = operation_short.most_bytes number of_number in
@@ -150,11 +151,11 @@ install_fits number version rule rows of_number of_version of_rule few fits asce
     let last = length-append (rule_field.spell rule) (rows_field.spell rows) in
     let more = length-append (version_field.spell version) (rule_field.spell rule ++ rows_field.spell rows) in
     let all = length-append (operation_field.spell number) (version_field.spell version ++ (rule_field.spell rule ++ rows_field.spell rows)) in
-    record { fields = (of_number, (of_version, (of_rule, rows_fit rows few fits ascend))); short = omega arith }
+    record { fields = (of_number, (of_version, (of_rule, rows_fit rows few fits ascend))); short = omega arith; dir = tt }
 
-pub installed_fits : (number node : ℕ) → operation_field.Fits number → node_field.Fits node → Fits (message.Installed number node)
+pub installed_fits : (number node : ℕ) → operation_field.Fits number → node_field.Fits node → RecordFits (message.Installed number node)
 unfolding FieldsFit body_spelling done_body
-installed_fits number node of_number of_node = let h = done_short.most_bytes (number, node) (of_number, of_node) in record { fields = (of_number, of_node); short = omega arith }
+installed_fits number node of_number of_node = let h = done_short.most_bytes (number, node) (of_number, of_node) in record { fields = (of_number, of_node); short = omega arith; dir = tt }
 
 -- a version that was reached by a change
 pub version_fits : (version : ℕ) → 0 < version → version < 2 ^ 32 → version_field.Fits version

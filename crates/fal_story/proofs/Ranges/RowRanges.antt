@@ -12,7 +12,7 @@ use Rattle.fal_base.specs.declared.key.Key.{Key}
 use Rattle.fal_base.specs.declared.op.Op.{Op}
 use Rattle.fal_base.specs.declared.op.Op.TheVariants as op
 use Rattle.fal_base.specs.declared.reply.Errno.{Errno}
-use Rattle.fal_base.specs.declared.reply.Errno.TheVariants.{Eacces, Eexist, Eisdir, Eperm}
+use Rattle.fal_base.specs.declared.reply.Errno.TheVariants.{Eacces, Eexist, Eisdir, Enotdir, Eperm}
 use Rattle.fal_base.specs.declared.reply.Reply.TheVariants.{Fine, Fail, Stat}
 use Rattle.fal_base.specs.Change.{new_row}
 use Rattle.fal_base.specs.Tree.{Tree, row_at}
@@ -22,7 +22,7 @@ use Rattle.fal_exec.specs.declared.outcome.Change.{Change}
 use Rattle.fal_exec.specs.declared.outcome.Change.TheVariants.{Keep, Put, Remove}
 use Rattle.fal_exec.specs.declared.outcome.ExecOut.{ExecOut}
 use Rattle.fal_exec.specs.declared.outcome.ExecOut.TheVariants.{Finish, Opened, PassOn}
-use Rattle.fal_exec.specs.Outcome.{without_change, where_found, unless_refused, changed, access_outcome, chmod_outcome, chown_outcome, truncate_outcome, unlink_outcome, outcome_of}
+use Rattle.fal_exec.specs.Outcome.{without_change, where_found, unless_refused, changed, access_outcome, chmod_outcome, chown_outcome, truncate_outcome, unlink_outcome, list_outcome, outcome_of}
 use Rattle.fal_run.specs.declared.call.BatchCall.{BatchCall}
 use Rattle.fal_run.specs.Calls.{number_after, is_making, change_of, call_outcome}
 use Rattle.fal_run.specs.Rows.{rows_after}
@@ -30,7 +30,7 @@ use Rattle.fal_wire.specs.Numbers.{ino_field, mode_field, size_field, cred_field
 use Rattle.fal_wire.specs.Ops.{path_and_mode, path_and_owner, path_and_size, op_field, call_field}
 use Rattle.fal_wire.specs.Rows.{kind_field, inode_field, reply_field}
 use Rattle.fal_story.proofs.Ranges.MessageRanges.{fail_fits, fine_fits, stat_fits}
-use Rattle.fal_story.specs.Clusters.{is_served}
+use Rattle.fal_story.proofs.Ranges.RecordFits.{IsDirRanged}
 
 -- ---- the fields of a call
 
@@ -113,15 +113,15 @@ rows_ranged rows key making row Remove fits h q other is = ⊎_elim (λ x. no_in
 
 -- ---- what comes of a call
 
--- the call is done here, with an answer and a row in their ranges, or is passed on
+-- the call is done here, with an answer and a row in their ranges, or opens a directory that has a number, or is passed on
 abbrev pub IsOutRanged : Bool → Option Inode → ExecOut → Type 0
 IsOutRanged making row (Finish reply change) = reply_field.Fits reply × ChangeFits making row change
-IsOutRanged making row (Opened ino) = ⊥
+IsOutRanged making row (Opened ino) = IsDirRanged ino
 IsOutRanged making row PassOn = Unit {0}
 
 pub change_fits : (making : Bool) (row : Option Inode) (out : ExecOut) → IsOutRanged making row out → ChangeFits making row (change_of out)
 change_fits making row (Finish reply change) h = h.1
-change_fits making row (Opened ino) h = absurd h
+change_fits making row (Opened ino) h = tt
 change_fits making row PassOn h = tt
 
 failed : (making : Bool) (row : Option Inode) (errno : Errno) → IsOutRanged making row (without_change (Fail errno))
@@ -141,42 +141,49 @@ changed_ranged : (row : Option Inode) (inode after : Inode) → row ≡ Some ino
 changed_ranged row inode after is fits =
     elim (is_dir inode) as (λ b. IsOutRanged false row (cond b PassOn (Finish Fine (Put after)))) [ true ↦ tt | false ↦ (fine_fits, (fits, inr (ap (λ r. is_some r) is))) ]
 
+-- the number of a row is one of a directory
+dir_ranged : (inode : Inode) → inode_field.Fits inode → IsDirRanged inode.ino
+unfolding inode_field ino_field
+dir_ranged inode fits = record { some = grind (arith, nat_tests); fits = fits.0.0 }
+
 outcome_ranged : (row : Option Inode) (parent : Option Dentry) (cred : Cred) (o : Op) (fresh : ℕ) → ((inode : Inode) → row ≡ Some inode → inode_field.Fits inode)
-    → is_served o ≡ true → cred_field.Fits cred → op_field.Fits o → ino_field.Fits fresh → IsOutRanged (is_making o) row (outcome_of row parent cred o fresh)
-outcome_ranged row parent cred (op.Mkdir path mode) fresh rows served of_cred of_op of_fresh =
+    → cred_field.Fits cred → op_field.Fits o → ino_field.Fits fresh → IsOutRanged (is_making o) row (outcome_of row parent cred o fresh)
+outcome_ranged row parent cred (op.Mkdir path mode) fresh rows of_cred of_op of_fresh =
     checked_ranged true row ((is_some row, Eexist) ∷ (not (kept_grants cred 2 parent), Eacces) ∷ []) (Finish Fine (Put (new_row cred Dir mode fresh)))
     (fine_fits, (new_fits cred Dir mode fresh of_cred (mkdir_mode path mode of_op) of_fresh, inl refl))
-outcome_ranged row parent cred (op.Create path mode) fresh rows served of_cred of_op of_fresh =
+outcome_ranged row parent cred (op.Create path mode) fresh rows of_cred of_op of_fresh =
     checked_ranged true row ((is_some row, Eexist) ∷ (not (kept_grants cred 2 parent), Eacces) ∷ []) (Finish Fine (Put (new_row cred File mode fresh)))
     (fine_fits, (new_fits cred File mode fresh of_cred (create_mode path mode of_op) of_fresh, inl refl))
-outcome_ranged row parent cred (op.Stat path) fresh rows served of_cred of_op of_fresh = found_ranged false row (λ inode. without_change (Stat inode)) (λ inode is. (stat_fits inode (rows inode is), tt))
-outcome_ranged row parent cred (op.Access path want) fresh rows served of_cred of_op of_fresh =
+outcome_ranged row parent cred (op.Stat path) fresh rows of_cred of_op of_fresh = found_ranged false row (λ inode. without_change (Stat inode)) (λ inode is. (stat_fits inode (rows inode is), tt))
+outcome_ranged row parent cred (op.Access path want) fresh rows of_cred of_op of_fresh =
     found_ranged false row (access_outcome cred want) (λ inode is. checked_ranged false row ((not (grants cred want inode), Eacces) ∷ []) (without_change Fine) (fine_fits, tt))
-outcome_ranged row parent cred (op.Chmod path mode) fresh rows served of_cred of_op of_fresh =
+outcome_ranged row parent cred (op.Chmod path mode) fresh rows of_cred of_op of_fresh =
     found_ranged false row (chmod_outcome cred mode)
     (λ inode is. checked_ranged false row ((not (cred.uid == 0 || cred.uid == inode.uid), Eperm) ∷ []) (changed inode (record inode { mode = mode }))
     (changed_ranged row inode (record inode { mode = mode }) is (moded_fits inode mode (rows inode is) (chmod_mode path mode of_op))))
-outcome_ranged row parent cred (op.Chown path uid gid) fresh rows served of_cred of_op of_fresh =
+outcome_ranged row parent cred (op.Chown path uid gid) fresh rows of_cred of_op of_fresh =
     found_ranged false row (chown_outcome cred uid gid)
     (λ inode is. checked_ranged false row ((not (cred.uid == 0), Eperm) ∷ []) (changed inode (record inode { uid = uid; gid = gid }))
     (changed_ranged row inode (record inode { uid = uid; gid = gid }) is (owned_fits inode uid gid (rows inode is) (chown_owner path uid gid of_op))))
-outcome_ranged row parent cred (op.Truncate path size) fresh rows served of_cred of_op of_fresh =
+outcome_ranged row parent cred (op.Truncate path size) fresh rows of_cred of_op of_fresh =
     found_ranged false row (truncate_outcome cred size)
     (λ inode is. checked_ranged false row ((is_dir inode, Eisdir) ∷ (not (grants cred 2 inode), Eacces) ∷ []) (Finish Fine (Put (record inode { size = size })))
     (fine_fits, (sized_fits inode size (rows inode is) (truncate_size path size of_op), inr (ap (λ r. is_some r) is))))
-outcome_ranged row parent cred (op.Unlink path) fresh rows served of_cred of_op of_fresh =
+outcome_ranged row parent cred (op.Unlink path) fresh rows of_cred of_op of_fresh =
     found_ranged false row (unlink_outcome parent cred) (λ inode is. checked_ranged false row ((not (kept_grants cred 2 parent), Eacces) ∷ (is_dir inode, Eperm) ∷ []) (Finish Fine Remove) (fine_fits, tt))
-outcome_ranged row parent cred (op.Rmdir path) fresh rows served of_cred of_op of_fresh = (fine_fits, tt)
-outcome_ranged row parent cred (op.Rename old new) fresh rows served of_cred of_op of_fresh = (fine_fits, tt)
-outcome_ranged row parent cred (op.Place name rule) fresh rows served of_cred of_op of_fresh = (fine_fits, tt)
-outcome_ranged row parent cred other fresh rows served of_cred of_op of_fresh = absurd (cc)
+outcome_ranged row parent cred (op.Rmdir path) fresh rows of_cred of_op of_fresh = (fine_fits, tt)
+outcome_ranged row parent cred (op.Rename old new) fresh rows of_cred of_op of_fresh = (fine_fits, tt)
+outcome_ranged row parent cred (op.List path) fresh rows of_cred of_op of_fresh =
+    found_ranged false row (list_outcome cred)
+    (λ inode is. checked_ranged false row ((not (is_dir inode), Enotdir) ∷ (not (grants cred 4 inode), Eacces) ∷ []) (Opened inode.ino) (dir_ranged inode (rows inode is)))
+outcome_ranged row parent cred (op.Place name rule) fresh rows of_cred of_op of_fresh = (fine_fits, tt)
 
-pub call_ranged : (node : ℕ) (rows : Tree) (drawn : ℕ) (x : BatchCall) → AreRowsRanged rows → is_served x.call.op ≡ true → call_field.Fits x.call → ino_field.Fits (number_after node drawn)
+pub call_ranged : (node : ℕ) (rows : Tree) (drawn : ℕ) (x : BatchCall) → AreRowsRanged rows → call_field.Fits x.call → ino_field.Fits (number_after node drawn)
     → IsOutRanged (is_making x.call.op) (row_at rows x.last) (call_outcome node rows drawn x)
-call_ranged node rows drawn x ranged served fits fresh =
+call_ranged node rows drawn x ranged fits fresh =
     let making = is_making x.call.op in
     let row = row_at rows x.last in
     elim x.denied as (λ b. IsOutRanged making row (cond b (without_change (Fail Eacces)) (outcome_of row x.parent x.call.cred x.call.op (number_after node drawn)))) [
       | true ↦ failed making row Eacces
-      | false ↦ outcome_ranged row x.parent x.call.cred x.call.op (number_after node drawn) (λ inode is. ranged x.last inode is) served (cred_of_call x.call fits) (op_of_call x.call fits) fresh
+      | false ↦ outcome_ranged row x.parent x.call.cred x.call.op (number_after node drawn) (λ inode is. ranged x.last inode is) (cred_of_call x.call fits) (op_of_call x.call fits) fresh
     ]

@@ -8,11 +8,12 @@ use Rattle.fal_base.specs.declared.rule.RuleChange.{RuleChange}
 use Rattle.fal_place.specs.Placement.{Placement, changes_since}
 use Rattle.fal_wire.specs.declared.message.Message.TheVariants as message
 use Rattle.fal_wire.specs.Format.{AreItems, number, ◌⊗◌}
-use Rattle.fal_wire.specs.Messages.{Fits, FieldsFit, body_spelling, stale_body}
+use Rattle.fal_wire.specs.Messages.{FieldsFit, body_spelling, stale_body}
 use Rattle.fal_wire.specs.Names.{name_field}
 use Rattle.fal_wire.specs.Numbers.{id_field, rule_count, version_above}
 use Rattle.fal_wire.specs.Rows.{changes_field, next_change, next_version, rule_field, version_before}
 use Rattle.fal_story.proofs.Ranges.FieldLengths.{both_short, id_short, judged_short, name_short, number_short, rule_short, IsShort}
+use Rattle.fal_story.proofs.Ranges.RecordFits.{RecordFits}
 use Rattle.fal_story.proofs.Ranges.RowCounts.{fewer_kept}
 use Rattle.fal_base.specs.declared.rule.Rule.{Rule}
 
@@ -85,7 +86,7 @@ above_fits : (old new : ℕ) → old < new → new ≤ 10000 → (version_above 
 unfolding version_above
 above_fits old new later few = (omega arith, grind (arith, nat_tests))
 
-pub stale_fits : (id : CallId) (old new : ℕ) (changes : List RuleChange) → id_field.Fits id → old < new → new ≤ 10000 → changes_field.Fits changes → Fits (message.Stale id old new changes)
+pub stale_fits : (id : CallId) (old new : ℕ) (changes : List RuleChange) → id_field.Fits id → old < new → new ≤ 10000 → changes_field.Fits changes → RecordFits (message.Stale id old new changes)
 unfolding FieldsFit body_spelling stale_body version_above
 stale_fits id old new changes of_id later few of_changes =
     let first = id_short.most_bytes id of_id in
@@ -95,4 +96,4 @@ stale_fits id old new changes of_id later few of_changes =
     let last = length-append ((number 4).spell new) (changes_field.spell changes) in
     let more = length-append ((number 4).spell old) ((number 4).spell new ++ changes_field.spell changes) in
     let all = length-append (id_field.spell id) ((number 4).spell old ++ ((number 4).spell new ++ changes_field.spell changes)) in
-    record { fields = (of_id, (omega arith, (above_fits old new later few, of_changes))); short = omega arith }
+    record { fields = (of_id, (omega arith, (above_fits old new later few, of_changes))); short = omega arith; dir = tt }

@@ -143,5 +143,6 @@ served_lock_good config v n l keys walks missing rows point is below item none o
       );
       bars = tt;
       knowing = tt;
+      listings = tt;
     })
     second

@@ -29,6 +29,7 @@ use Rattle.fal_story.proofs.Families.Clear.{clear_dropped, clear_put, clear_shut
 use Rattle.fal_story.proofs.Families.Ground.{ground_dropped}
 use Rattle.fal_story.proofs.Families.Knowing.{held_untold, knowing_put}
 use Rattle.fal_story.proofs.Families.Lanes.{IsRight, lanes_put, positive}
+use Rattle.fal_story.proofs.Families.Listings.{listings_put}
 use Rattle.fal_story.proofs.Families.Operation.{Operation, IsKept, shut_by, IsCounted}
 use Rattle.fal_story.proofs.Families.Placements.{answer_tells}
 use Rattle.fal_story.proofs.Families.Plans.{plans_put}
@@ -36,7 +37,7 @@ use Rattle.fal_story.proofs.Families.Records.{records_moved}
 use Rattle.fal_story.proofs.Families.Script.{Script, script_put, script_refused}
 use Rattle.fal_story.proofs.Families.Stages.{operation_started, operation_locking, operation_given_up, operation_shut, operation_heard, operation_done, operation_rested, operation_counting, operation_counted}
 use Rattle.fal_story.proofs.Good.{Good}
-use Rattle.fal_story.proofs.Phase.{Runs, Tells, Replies, IsCrossing, IsHeld, IsPast, goes_put, held_live, held_taken, stays_put, IsUnanswered}
+use Rattle.fal_story.proofs.Phase.{Runs, Tells, Replies, IsCrossing, IsHeld, IsPast, goes_put, held_live, held_taken, live_unlisted, stays_put, IsUnanswered}
 use Rattle.fal_story.proofs.Trees.PlaceAnswers.{table_reply}
 use Rattle.fal_story.proofs.View.{View, Work, Kept, Rests, Walks, Locks, Ends, now, Counts}
 use Rattle.fal_story.specs.World.{put}
@@ -69,6 +70,7 @@ module _ (config : Config) (v : View) where
     operation = g.operation;
     bars = g.bars;
     knowing = g.knowing;
+    listings = g.listings;
   }
 
   -- ---- an operation is started, or goes on
@@ -89,6 +91,7 @@ module _ (config : Config) (v : View) where
     operation = goes;
     bars = bars;
     knowing = g.knowing;
+    listings = g.listings;
   }
 
   pub started_good : (l : ℕ) → v.op.work ≡ Rests → (IsPast (v.phase l) → ⊥) → Good config v
@@ -110,6 +113,7 @@ module _ (config : Config) (v : View) where
     operation = operation_locking g.operation l keys walks is none unmaking kept g.ground.lives;
     bars = bars_put (bars_stage g.bars (Locks l keys walks (numbers_below config.nodes) []) (is_locking is tt) tt) l Runs tt;
     knowing = knowing_put g.knowing l Runs (λ e. absurd (subst IsUnanswered e (held_live n (v.phase l) held))) (held_untold n (v.phase l) held) tt;
+    listings = listings_put g.listings l Runs (λ e. absurd (subst IsUnanswered e (held_live n (v.phase l) held))) (live_unlisted (v.phase l) (held_live n (v.phase l) held)) tt;
   }
 
   -- ---- its walk stops
@@ -131,6 +135,7 @@ module _ (config : Config) (v : View) where
     operation = operation_given_up g.operation l k reply is none;
     bars = bars_put (bars_stage g.bars Rests (is_locking is tt) tt) l (Tells (Replies k reply)) tt;
     knowing = knowing_put g.knowing l (Tells (Replies k reply)) (λ e. absurd (subst IsUnanswered e (held_live n (v.phase l) held))) (held_untold n (v.phase l) held) tt;
+    listings = listings_put g.listings l (Tells (Replies k reply)) (λ e. absurd (subst IsUnanswered e (held_live n (v.phase l) held))) (live_unlisted (v.phase l) (held_live n (v.phase l) held)) tt;
   }
 
   pub given_up_good : (l n k : ℕ) (reply : Reply) → v.op.work ≡ Walks l → IsHeld n (v.phase l) → v.fetches 255 ≡ [] → IsRight v.commits (v.seq l) (v.call l) (v.since l) l k reply → Good config v
@@ -167,6 +172,7 @@ module _ (config : Config) (v : View) where
     operation = operation_shut g.operation n l keys walks missing rows is below item;
     bars = bars_locks g.bars v.rows v.op.due (put v.op.queued n None) v.op.last v.op.work v.commits (is_locking is tt) (locking_plain v.op.work (is_locking is tt)) (λ n. omega arith);
     knowing = g.knowing;
+    listings = g.listings;
   }
 
   -- ---- the coordinator hears nodes

@@ -159,6 +159,7 @@ served_block_good config v n l point name rule missing came left sent is below i
       records = (255, refl);
       operation = tt;
       knowing = tt;
+      listings = tt;
       bars = (
         omega arith,
         λ _. subst (λ w. ToldBlocked v.op.operation w (put v.map.barred n (barred_by v.op.operation name) n) (put v.op.due n (puts name sent) n) sent) (sym is)

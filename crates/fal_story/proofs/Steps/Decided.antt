@@ -13,7 +13,7 @@ use Rattle.fal_base.specs.Change as tree
 use Rattle.fal_base.specs.Change.{makes}
 use Rattle.fal_base.specs.Commits.{Commit, tree_at}
 use Rattle.fal_base.specs.Maps.{value_at}
-use Rattle.fal_base.specs.Transcript.{is_place}
+use Rattle.fal_base.specs.Transcript.{is_names, is_place}
 use Rattle.fal_base.specs.Tree.{row_at}
 use Rattle.fal_base.specs.Updates.{laid, keys_of}
 use Rattle.fal_base.proofs.Updates.{laid_off}
@@ -26,6 +26,7 @@ use Rattle.fal_story.proofs.Families.Clear.{IsShut, clear_put}
 use Rattle.fal_story.proofs.Families.Ground.{ground_decided}
 use Rattle.fal_story.proofs.Families.Knowing.{Untold, knowing_put}
 use Rattle.fal_story.proofs.Families.Lanes.{IsRight, lanes_committed, lanes_put, positive}
+use Rattle.fal_story.proofs.Families.Listings.{listings_committed, listings_noted, listings_put}
 use Rattle.fal_story.proofs.Families.Operation.{HasShut}
 use Rattle.fal_story.proofs.Families.OperationEnds.{IsReady, ready_of, ready_quiet, ready_shut, operation_decided, operation_ended}
 use Rattle.fal_story.proofs.Families.Plans.{plans_committed, plans_put}
@@ -33,7 +34,7 @@ use Rattle.fal_story.proofs.Families.Records.{records_done, records_moved}
 use Rattle.fal_story.proofs.Families.Script.{Commits, IsDrawn, makes_tree, script_committed, script_put}
 use Rattle.fal_story.proofs.Good.{Good}
 use Rattle.fal_story.proofs.Lists.Grown.{slice_get_snoc, slice_get_end, tells}
-use Rattle.fal_story.proofs.Phase.{Idle, Runs, Tells, Replies, IsCrossing, IsUnanswered, IsTaken, goes_put, stays_put, taken_live}
+use Rattle.fal_story.proofs.Phase.{Idle, Runs, Tells, Replies, IsCrossing, IsUnanswered, IsTaken, goes_put, live_unlisted, stays_put, taken_live}
 use Rattle.fal_story.proofs.Trees.Changed.{IsChanged}
 use Rattle.fal_story.proofs.Trees.Commits.{longer, tree_at_front, tree_now_snoc, legal_snoc}
 use Rattle.fal_story.proofs.Trees.Standing.{tree_now}
@@ -154,6 +155,7 @@ module _ (config : Config) (v : View) (l : ℕ) (keys : List Key) (updates : Lis
       let more = longer v.commits c in
       record {
         tree = makes_tree (now v) (v.call l).cred (v.call l).op is.makes;
+        plain = refl;
         from = g.script.calls.past l;
         to = omega arith;
         served = sym is.fine ∙ ap (λ t. answer t (v.call l).cred (v.call l).op) (sym same);
@@ -177,24 +179,28 @@ module _ (config : Config) (v : View) (l : ℕ) (keys : List Key) (updates : Lis
     plans = plans_committed g.plans c Safe changed (λ a n x planned. safe_way n (g.plans.planned a n x planned).0 a (subst (IsCrossing n) (sym planned) refl)) l (length v.commits) Fine;
     lanes = lanes_committed g.lanes c l (length v.commits) Fine refl busy right_now;
     script = script_committed g.script c l (length v.commits) Fine refl refl refl refl above live v.drawn commits_now;
-    records = records_done g.records l (length v.commits) Fine taken;
+    records = records_done g.records l (Replies (length v.commits) Fine) taken;
     operation = operation_decided g.operation l keys updates c (length v.commits) Fine is.stage is.within;
     bars = bars_put (bars_locks g.bars v.rows (λ n. owned v.map.table n updates) v.op.queued v.op.last (Ends keys updates (numbers_below config.nodes)) (v.commits ++ c ∷ []) (ready_locking v.op.work l keys is.stage) tt (λ n. omega arith)) l (Tells (Replies (length v.commits) Fine)) tt;
     knowing = knowing_put g.knowing l (Tells (Replies (length v.commits) Fine)) (λ e. absurd (subst IsUnanswered e live)) (subst Untold (sym runs) tt) tt;
+    listings = listings_committed
+        (listings_noted (listings_put g.listings l (Tells (Replies (length v.commits) Fine)) (λ e. absurd (subst IsUnanswered e live)) (live_unlisted (v.phase l) live) tt) (entry.Commit l (v.seq l) 0) g.script.joined (λ m s k names same. cc))
+        c;
   }
 
 -- the operation changes nothing: the answer is the one that it has now
-pub ended_good : (config : Config) (v : View) (l : ℕ) (keys : List Key) (reply : Reply) → IsReady v.op.work l keys → is_place (v.call l).op ≡ false → makes (now v) (v.call l).cred (v.call l).op ≡ false → reply ≡ answer (now v) (v.call l).cred (v.call l).op → Good config v
+pub ended_good : (config : Config) (v : View) (l : ℕ) (keys : List Key) (reply : Reply) → IsReady v.op.work l keys → is_place (v.call l).op ≡ false → makes (now v) (v.call l).cred (v.call l).op ≡ false → reply ≡ answer (now v) (v.call l).cred (v.call l).op → is_names reply ≡ false → Good config v
     → Good config (record v {
       phase = put v.phase l (Tells (Replies (length v.commits) reply));
       op = record v.op { work = Ends keys [] (numbers_below config.nodes) };
     })
-ended_good config v l keys reply ready tree unmade answered g =
+ended_good config v l keys reply ready tree unmade answered plain g =
     let runs : v.phase l ≡ Runs = g.operation.running l (ready_of v.op.work l keys ready) in
     let live : IsUnanswered (v.phase l) = subst IsUnanswered (sym runs) tt in
     let p = Tells (Replies (length v.commits) reply) in
     let right : IsRight v.commits (v.seq l) (v.call l) (v.since l) l (length v.commits) reply = record {
       tree = tree;
+      plain = plain;
       from = g.script.calls.past l;
       to = omega arith;
       served = answered;
@@ -215,4 +221,5 @@ ended_good config v l keys reply ready tree unmade answered g =
       operation = operation_ended g.operation l keys (length v.commits) reply ready;
       bars = bars_put (bars_stage g.bars (Ends keys [] (numbers_below config.nodes)) (ready_locking v.op.work l keys ready) tt) l p tt;
       knowing = knowing_put g.knowing l p (λ e. absurd (subst IsUnanswered e live)) (subst Untold (sym runs) tt) tt;
+      listings = listings_put g.listings l p (λ e. absurd (subst IsUnanswered e live)) (live_unlisted (v.phase l) live) tt;
     }

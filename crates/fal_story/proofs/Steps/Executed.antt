@@ -17,7 +17,7 @@ use Rattle.fal_base.specs.Answer.{answer}
 use Rattle.fal_base.specs.Change as tree
 use Rattle.fal_base.specs.Change.{makes}
 use Rattle.fal_base.specs.Commits.{Commit, tree_at}
-use Rattle.fal_base.specs.Transcript.{is_place}
+use Rattle.fal_base.specs.Transcript.{is_names, is_place}
 use Rattle.fal_base.specs.Walk.{Ready, walk}
 use Rattle.fal_base.specs.Tree.{Tree, row_at}
 use Rattle.fal_base.specs.Updates.{laid_at, keys_of}
@@ -43,6 +43,7 @@ use Rattle.fal_story.proofs.Families.Clear.{IsShut, clear_put}
 use Rattle.fal_story.proofs.Families.Ground.{Ground, ground_executed}
 use Rattle.fal_story.proofs.Families.Knowing.{Untold, knowing_put}
 use Rattle.fal_story.proofs.Families.Lanes.{IsRight, lanes_committed, positive}
+use Rattle.fal_story.proofs.Families.Listings.{listings_committed, listings_noted, listings_put}
 use Rattle.fal_story.proofs.Families.Operation.{HasDirs, Stands}
 use Rattle.fal_story.proofs.Families.OperationRows.{IsUnder, IsUntouched, operation_executed}
 use Rattle.fal_story.proofs.Families.Plans.{IsPlannedAs, plans_committed}
@@ -50,8 +51,8 @@ use Rattle.fal_story.proofs.Families.Records.{records_done}
 use Rattle.fal_story.proofs.Families.Script.{Commits, IsDrawn, script_committed}
 use Rattle.fal_story.proofs.Good.{Good}
 use Rattle.fal_story.proofs.Lists.Grown.{put_same, slice_get_snoc, slice_get_end, put_all}
-use Rattle.fal_story.proofs.Phase.{Idle, Plans, Tells, Replies, IsCrossing, IsTaken, IsUnanswered}
-use Rattle.fal_story.proofs.Steps.Outcomes.{outcome_ends, outcome_off_dirs, remove_makes_none}
+use Rattle.fal_story.proofs.Phase.{Idle, Plans, Tells, Replies, IsCrossing, IsTaken, IsUnanswered, IsUnlisted}
+use Rattle.fal_story.proofs.Steps.Outcomes.{finished_plain, outcome_ends, outcome_off_dirs, remove_makes_none}
 use Rattle.fal_story.proofs.Steps.Reads.{none_due, read_row, not_true}
 use Rattle.fal_story.proofs.Trees.Changed.{IsChanged}
 use Rattle.fal_story.proofs.Trees.CommitRows.{changed_at, change_noted, noted_made, noted_none, IsChangedAt, row_left}
@@ -87,7 +88,7 @@ some_of None P is = absurd is
 some_of (Some x) P is = (x, (refl, is))
 
 -- the plan stands in the tree as it is
-planned_here : (config : Config) (v : View) (l n : ℕ) (x : BatchCall) (denied : Bool) → v.phase l ≡ Plans n x → x.denied ≡ denied → Good config v
+pub planned_here : (config : Config) (v : View) (l n : ℕ) (x : BatchCall) (denied : Bool) → v.phase l ≡ Plans n x → x.denied ≡ denied → Good config v
     → (names : List (List ℕ)) × ((row_names (v.call l).op ≡ Some names) × IsPlannedAs v.map.table (now v) n (v.call l) (v.op.crossed l) x denied names)
 planned_here config v l n x denied is as_denied g =
     subst (λ b. (names : List (List ℕ)) × ((row_names (v.call l).op ≡ Some names) × IsPlannedAs v.map.table (now v) n (v.call l) (v.op.crossed l) x b names)) as_denied
@@ -118,7 +119,7 @@ off_due : (config : Config) (v : View) (l n : ℕ) (x : BatchCall) → v.phase l
 off_due config v l n x is ready g = none_due config v n x.last (g.plans.planned l n x is).0 (own_here config v l n x is ready g).1 (g.bars.clear l n x is ready) g
 
 -- its row is the tree's
-row_here : (config : Config) (v : View) (l n : ℕ) (x : BatchCall) → v.phase l ≡ Plans n x → x.denied ≡ false → Good config v → row_at (v.rows n) x.last ≡ row_at (now v) x.last
+pub row_here : (config : Config) (v : View) (l n : ℕ) (x : BatchCall) → v.phase l ≡ Plans n x → x.denied ≡ false → Good config v → row_at (v.rows n) x.last ≡ row_at (now v) x.last
 row_here config v l n x is ready g = let here = own_here config v l n x is ready g in read_row config v n x.last (g.plans.planned l n x is).0 here.0 here.1 (g.bars.clear l n x is ready) g
 
 -- what came of it is what the tree says of the call
@@ -132,10 +133,11 @@ finished_here config v l n x reply ch is ready outcome g =
     (in_trees (row_at (v.rows n) x.last) x.parent (v.call l).cred (v.call l).op (number_after n (v.drawn n)) (now v) plan.0 at.0.0 at.0.1.0 x.last plan.1.0 at.0.1.1 row (sym at.0.1.2))
 
 -- a call that makes no commit now has its answer now
-unmade_right : (config : Config) (v : View) (l n : ℕ) (x : BatchCall) (reply : Reply) → v.phase l ≡ Plans n x → reply ≡ answer (now v) (v.call l).cred (v.call l).op → makes (now v) (v.call l).cred (v.call l).op ≡ false
+unmade_right : (config : Config) (v : View) (l n : ℕ) (x : BatchCall) (reply : Reply) → v.phase l ≡ Plans n x → reply ≡ answer (now v) (v.call l).cred (v.call l).op → is_names reply ≡ false → makes (now v) (v.call l).cred (v.call l).op ≡ false
     → Good config v → IsRight v.commits (v.seq l) (v.call l) (v.since l) l (length v.commits) reply
-unmade_right config v l n x reply is answered unmade g = record {
+unmade_right config v l n x reply is answered plain unmade g = record {
   tree = planned_tree config v l n x is g;
+  plain = plain;
   from = g.script.calls.past l;
   to = omega arith;
   served = answered;
@@ -147,23 +149,27 @@ unmade_right config v l n x reply is answered unmade g = record {
 abbrev pub IsHandedOn : View → ℕ → ℕ → BatchCall → Type 0
 IsHandedOn v l n x = outcome_of (row_at (v.rows n) x.last) x.parent (v.call l).cred (v.call l).op (number_after n (v.drawn n)) ≡ out.PassOn
 
--- a planned call is done, or passed on
+-- or where it opens its directory
+abbrev pub IsOpening : View → ℕ → ℕ → BatchCall → ℕ → Type 0
+IsOpening v l n x dir = outcome_of (row_at (v.rows n) x.last) x.parent (v.call l).cred (v.call l).op (number_after n (v.drawn n)) ≡ out.Opened dir
+
+-- a planned call is done, or passed on, or opens a directory
 pub outcome_there : (config : Config) (v : View) (l n : ℕ) (x : BatchCall) → v.phase l ≡ Plans n x → Good config v
-    → ((reply : Reply) × ((ch : Change) × IsOutcome v l n x reply ch)) ⊎ IsHandedOn v l n x
-outcome_there config v l n x is g = outcome_ends (row_at (v.rows n) x.last) x.parent (v.call l).cred (v.call l).op (number_after n (v.drawn n)) (g.lanes.under_way.served l (under_way v l n x is))
+    → ((reply : Reply) × ((ch : Change) × IsOutcome v l n x reply ch)) ⊎ (IsHandedOn v l n x ⊎ ((dir : ℕ) × IsOpening v l n x dir))
+outcome_there config v l n x is g = outcome_ends (row_at (v.rows n) x.last) x.parent (v.call l).cred (v.call l).op (number_after n (v.drawn n))
 
 -- a call that is denied, and one that changes nothing, are answered now
 pub denied_right : (config : Config) (v : View) (l n : ℕ) (x : BatchCall) → v.phase l ≡ Plans n x → x.denied ≡ true → Good config v
     → IsRight v.commits (v.seq l) (v.call l) (v.since l) l (length v.commits) (Fail Eacces)
 denied_right config v l n x is denied g =
     let plan = planned_here config v l n x true is denied g in
-    unmade_right config v l n x (Fail Eacces) is (sym (stopped_answer (now v) (v.call l).cred (v.call l).op plan.0 Eacces plan.1.0 plan.1.1.0)) (stopped_makes (now v) (v.call l).cred (v.call l).op plan.0 Eacces plan.1.0 plan.1.1.0) g
+    unmade_right config v l n x (Fail Eacces) is (sym (stopped_answer (now v) (v.call l).cred (v.call l).op plan.0 Eacces plan.1.0 plan.1.1.0)) refl (stopped_makes (now v) (v.call l).cred (v.call l).op plan.0 Eacces plan.1.0 plan.1.1.0) g
 
 pub kept_right : (config : Config) (v : View) (l n : ℕ) (x : BatchCall) (reply : Reply) → v.phase l ≡ Plans n x → x.denied ≡ false → IsOutcome v l n x reply change.Keep → Good config v
     → IsRight v.commits (v.seq l) (v.call l) (v.since l) l (length v.commits) reply
 kept_right config v l n x reply is ready outcome g =
     let done = finished_here config v l n x reply change.Keep is ready outcome g in
-    unmade_right config v l n x reply is done.answered done.part g
+    unmade_right config v l n x reply is done.answered (finished_plain (now v) (v.call l).cred (v.call l).op (number_after n (v.drawn n)) x.last reply change.Keep done) done.part g
 
 -- ---- a commit
 
@@ -249,7 +255,7 @@ module _ (config : Config) (v : View) (l n : ℕ) (x : BatchCall) (reply : Reply
   off_dir : is_directory (row_at (now v) x.last) ≡ false
   off_dir =
       ap is_directory (sym (row_here config v l n x is ready g))
-      ∙ outcome_off_dirs (row_at (v.rows n) x.last) x.parent call.cred call.op fresh reply ch (g.lanes.under_way.served l (under_way v l n x is)) outcome changes
+      ∙ outcome_off_dirs (row_at (v.rows n) x.last) x.parent call.cred call.op fresh reply ch outcome changes
 
   changed : IsChangedAt (now v) (tree_now grown) x.last
   changed = subst (λ t. IsChangedAt (now v) t x.last) (sym tree_after) (changed_at (now v) x.last ch changes off_dir)
@@ -265,6 +271,7 @@ module _ (config : Config) (v : View) (l n : ℕ) (x : BatchCall) (reply : Reply
       let more = longer v.commits added in
       record {
         tree = planned_tree config v l n x is g;
+        plain = finished_plain (now v) call.cred call.op fresh x.last reply ch done;
         from = g.script.calls.past l;
         to = omega arith;
         served = done.answered ∙ ap (λ t. answer t call.cred call.op) (sym same);
@@ -364,9 +371,13 @@ committed_good config v l n x reply ch is ready outcome changes below g =
       plans = plans_committed g.plans c Safe at (λ _ _ _ _ _ _. tt) l k reply;
       lanes = lanes_committed g.lanes c l k reply refl (under_way v l n x is) (right_now config v l n x reply ch is ready outcome changes below g);
       script = script_committed g.script c l k reply refl refl refl refl (positive g.lanes l (under_way v l n x is)) (subst IsUnanswered (sym is) tt) (put v.drawn n (v.drawn n + drawn_by (v.call l).op ch)) (commits_now config v l n x reply ch is ready outcome changes below g);
-      records = records_done g.records l k reply taken;
+      records = records_done g.records l (Replies k reply) taken;
       operation = operation_executed g.operation c l k reply (λ runs. absurd (cc)) g.ground.lives at (untouched config v l n x reply ch is ready outcome changes below g) (under config v l n x reply ch is ready outcome changes below g);
       bars = subst (λ r. Bars config.nodes v.map.table v.map.tables v.map.barred (put v.rows n r) v.op.due v.op.queued v.op.last v.op.operation v.op.work v.posts (v.commits ++ c ∷ []) (put v.phase l (Tells (Replies k reply)))) (sym (rows_after_is (v.rows n) x.last ch changes))
           (bars_put (bars_executed g.bars c n x.last (row_left ch) (g.plans.planned l n x is).0 own (g.bars.clear l n x is ready) (after ∙ rows_after_is (now v) x.last ch changes)) l (Tells (Replies k reply)) tt);
       knowing = knowing_put g.knowing l (Tells (Replies k reply)) (λ e. absurd (under_way v l n x is e)) (subst Untold (sym is) tt) tt;
+      listings = listings_committed
+          (listings_noted (listings_put g.listings l (Tells (Replies k reply)) (λ e. absurd (under_way v l n x is e)) (subst IsUnlisted (sym is) tt) tt) (entry.Commit l (v.seq l) (ino_of (v.call l).op (number_after n (v.drawn n)) ch)) g.script.joined
+          (λ m s i names same. cc))
+          c;
     }

@@ -36,6 +36,7 @@ closed_good config v n fs who among quiet g = record {
   operation = operation_fetched g.operation (put v.fetches n fs 255) (own_fetches v n fs g.operation.quiet quiet);
   bars = g.bars;
   knowing = g.knowing;
+  listings = g.listings;
 }
 
 pub raised_good : (config : Config) (v : View) (n count : ℕ) → v.opened n ≤ count → Good config v → Good config (record v { opened = put v.opened n count })
@@ -50,6 +51,7 @@ raised_good config v n count more g = record {
   operation = g.operation;
   bars = g.bars;
   knowing = g.knowing;
+  listings = g.listings;
 }
 
 -- a fetch is pending for a key that is not shut, whose number nothing had
@@ -74,4 +76,5 @@ pended_good config v n f is g = record {
   operation = operation_fetched g.operation (put v.fetches n (v.fetches n ++ f ∷ []) 255) (own_fetches v n (v.fetches n ++ f ∷ []) g.operation.quiet is.walks);
   bars = g.bars;
   knowing = g.knowing;
+  listings = g.listings;
 }

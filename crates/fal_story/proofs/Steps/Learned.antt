@@ -24,4 +24,5 @@ learned_good config v n key dentry who is off g = record {
   operation = g.operation;
   bars = g.bars;
   knowing = g.knowing;
+  listings = g.listings;
 }

@@ -9,12 +9,13 @@ use Rattle.fal_story.proofs.Families.Bars.{IsBarred}
 use Rattle.fal_story.proofs.Families.Clear.{IsShut, clear_moved}
 use Rattle.fal_story.proofs.Families.Knowing.{Untold, held_untold, knowing_moved}
 use Rattle.fal_story.proofs.Families.Lanes.{IsRight, lanes_moved}
+use Rattle.fal_story.proofs.Families.Listings.{listings_moved}
 use Rattle.fal_story.proofs.Families.OperationCalls.{operation_moved}
 use Rattle.fal_story.proofs.Families.Plans.{IsPlanned, plans_moved}
 use Rattle.fal_story.proofs.Families.Records.{records_moved}
 use Rattle.fal_story.proofs.Families.Script.{script_moved}
 use Rattle.fal_story.proofs.Good.{Good}
-use Rattle.fal_story.proofs.Phase.{Phase, Idle, Asked, Waits, Plans, Runs, Tells, Replies, Goes, IsSteady, IsCrossing, IsFor, IsHeld, Stays, goes_live, goes_same, held_live, held_taken, stays_taken, steady_held, steady_same, Told}
+use Rattle.fal_story.proofs.Phase.{Phase, Idle, Asked, Waits, Plans, Runs, Tells, Replies, Opens, Lists, Goes, IsSteady, IsCrossing, IsFor, IsHeld, Stays, goes_live, goes_same, held_live, held_taken, stays_taken, steady_held, steady_same, Told}
 use Rattle.fal_story.proofs.View.{Asking, View, now}
 
 -- none of these keys is shut at the node
@@ -30,6 +31,8 @@ MayMove config v l from (Waits n (Some number)) keys = IsHeld n from × (number 
 MayMove config v l from (Plans n x) keys = IsHeld n from × (n < config.nodes) × IsPlanned v.map.table (now v) n (v.call l) keys x × IsClear v n keys × (x.denied ≡ false → IsBarred (v.map.barred n) x.last.name → ⊥)
 MayMove config v l from Runs keys = ⊥
 MayMove config v l from (Told old new) keys = ⊥
+MayMove config v l from (Tells (Opens k dir)) keys = ⊥
+MayMove config v l from (Tells (Lists k dir)) keys = ⊥
 MayMove config v l from (Tells (Replies k reply)) keys = ((n : ℕ) × IsHeld n from) × IsRight v.commits (v.seq l) (v.call l) (v.since l) l k reply
 
 moved_goes : (config : Config) (v : View) (l : ℕ) (p q : Phase) (keys : List Key) → MayMove config v l p q keys → Goes p q × IsSteady p q × Stays p q
@@ -40,6 +43,8 @@ moved_goes config v l p (Waits n (Some number)) keys m = (goes_live p (Waits n (
 moved_goes config v l p (Plans n x) keys m = (goes_live p (Plans n x) (held_live n p m.0), steady_held n p (Plans n x) m.0 tt, stays_taken p (Plans n x) (held_taken n p m.0))
 moved_goes config v l p Runs keys m = absurd m
 moved_goes config v l p (Told old new) keys m = absurd m
+moved_goes config v l p (Tells (Opens k dir)) keys m = absurd m
+moved_goes config v l p (Tells (Lists k dir)) keys m = absurd m
 moved_goes config v l p (Tells (Replies k reply)) keys m = (goes_live p (Tells (Replies k reply)) (held_live m.0.0 p m.0.1), steady_held m.0.0 p (Tells (Replies k reply)) m.0.1 tt, stays_taken p (Tells (Replies k reply)) (held_taken m.0.0 p m.0.1))
 
 pub held_for : (n : ℕ) (p : Phase) → IsHeld n p → IsFor n p
@@ -59,6 +64,8 @@ moved_for config v l n p (Waits i (Some number)) keys m h = held_for n p (subst 
 moved_for config v l n p (Plans i x) keys m h = held_for n p (subst (λ z. IsHeld z p) h m.0)
 moved_for config v l n p Runs keys m h = absurd h
 moved_for config v l n p (Told old new) keys m h = absurd h
+moved_for config v l n p (Tells (Opens k dir)) keys m h = absurd m
+moved_for config v l n p (Tells (Lists k dir)) keys m h = absurd m
 moved_for config v l n p (Tells (Replies k reply)) keys m h = absurd h
 
 -- the new place rests on no shut key
@@ -70,6 +77,8 @@ moved_off config v l p (Waits i (Some number)) keys m n key at crossed is = m.3 
 moved_off config v l p (Plans i x) keys m n key at crossed is = m.3 key crossed (subst (λ z. IsShut (v.op.shut z) key) (sym at) is)
 moved_off config v l p Runs keys m n key at crossed is = absurd at
 moved_off config v l p (Told old new) keys m n key at crossed is = absurd at
+moved_off config v l p (Tells (Opens k dir)) keys m n key at crossed is = absurd at
+moved_off config v l p (Tells (Lists k dir)) keys m n key at crossed is = absurd at
 moved_off config v l p (Tells (Replies k reply)) keys m n key at crossed is = absurd at
 
 moved_untold : (config : Config) (v : View) (l : ℕ) (p q : Phase) (keys : List Key) → MayMove config v l p q keys → Untold p
@@ -80,6 +89,8 @@ moved_untold config v l p (Waits n (Some number)) keys m = held_untold n p m.0
 moved_untold config v l p (Plans n x) keys m = held_untold n p m.0
 moved_untold config v l p Runs keys m = absurd m
 moved_untold config v l p (Told old new) keys m = absurd m
+moved_untold config v l p (Tells (Opens k dir)) keys m = absurd m
+moved_untold config v l p (Tells (Lists k dir)) keys m = absurd m
 moved_untold config v l p (Tells (Replies k reply)) keys m = held_untold m.0.0 p m.0.1
 
 pub moved_good : (config : Config) (v : View) (phase : ℕ → Phase) (crossed : ℕ → List Key)
@@ -114,5 +125,12 @@ moved_good config v phase crossed moves g =
           (moves l));
       knowing = knowing_moved g.knowing phase (λ l. (goes l).still)
           (λ l old new e. ⊎_elim (λ same. sym same.0 ∙ e) (λ m. absurd (subst (λ q. MayMove config v l (v.phase l) q (crossed l)) e m)) (moves l))
-          (λ l old new e. ⊎_elim (λ same. same.0 ∙ e) (λ m. absurd (subst Untold e (moved_untold config v l (v.phase l) (phase l) (crossed l) m))) (moves l));
+          (λ l old new e. ⊎_elim (λ same. same.0 ∙ e) (λ m. absurd (subst Untold e (moved_untold config v l (v.phase l) (phase l) (crossed l) m))) (moves l))
+          (λ l. (goes l).listing);
+      listings = listings_moved g.listings phase (λ l. (goes l).still)
+          (λ l k dir h. ⊎_elim
+          (λ same. same.0)
+          (λ m. absurd (⊎_elim (λ e. subst (λ q. MayMove config v l (v.phase l) q (crossed l)) e m) (λ e. subst (λ q. MayMove config v l (v.phase l) q (crossed l)) e m) h))
+          (moves l))
+          (λ l. (goes l).listing);
     }

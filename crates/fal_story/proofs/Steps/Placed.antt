@@ -23,6 +23,7 @@ use Rattle.fal_place.proofs.Carried.{version-table_after}
 use Rattle.fal_place.proofs.Tables.{owner_other}
 use Rattle.fal_story.proofs.Lists.Grown.{put_all, unequal}
 use Rattle.fal_story.proofs.Families.Lanes.{lanes_placed, lanes_put, positive}
+use Rattle.fal_story.proofs.Families.Listings.{listings_noted, listings_put}
 use Rattle.fal_story.specs.World.{put}
 use Rattle.fal_story.proofs.Families.Asking.{asking_put, asking_retabled}
 use Rattle.fal_story.proofs.Families.Barring.{bars_put, below_or}
@@ -33,7 +34,7 @@ use Rattle.fal_story.proofs.Good.{Good}
 use Rattle.fal_story.proofs.Families.Ground.{ground_reopened}
 use Rattle.fal_story.proofs.Families.Knowing.{Untold, held_untold, knowing_placed, knowing_put}
 use Rattle.fal_story.proofs.Families.Operation.{IsMissing, IsOf, Stands}
-use Rattle.fal_story.proofs.Phase.{Runs, Tells, Replies, Plans, IsHeld, IsPast, IsTaken, IsUnanswered, goes_put, held_live, held_taken, stays_put}
+use Rattle.fal_story.proofs.Phase.{Runs, Tells, Replies, Plans, IsHeld, IsPast, IsTaken, IsUnanswered, goes_put, held_live, held_taken, live_unlisted, stays_put}
 use Rattle.fal_story.proofs.Families.BarsPlaces.{bars_placing, bars_queued, bars_blocked, bars_heard, bars_placed, bars_installed, bars_done, bars_rested, came_whole, all_barred, all_landed}
 use Rattle.fal_story.proofs.Families.Plans.{plans_put, plans_retabled}
 use Rattle.fal_story.proofs.Families.Records.{records_moved}
@@ -68,6 +69,7 @@ module _ (config : Config) (v : View) where
         operation = operation_placing g.operation l name rule rests waits
             (positive g.lanes l (λ idle. waits (subst IsPast (sym idle) tt))) unmaking;
         knowing = knowing_put g.knowing l Runs (λ e. absurd (subst IsUnanswered e (held_live n (v.phase l) held))) (held_untold n (v.phase l) held) tt;
+        listings = listings_put g.listings l Runs (λ e. absurd (subst IsUnanswered e (held_live n (v.phase l) held))) (live_unlisted (v.phase l) (held_live n (v.phase l) held)) tt;
         bars = bars_put (bars_placing g.bars l name rule rests none (λ m below. ((stands m below).2, (stands m below).3)) g.ground.lives) l Runs tt;
       }
 
@@ -89,6 +91,7 @@ module _ (config : Config) (v : View) where
               (put_all (λ m z. v.op.last m ≤ z) v.op.last n v.op.operation (omega arith) (λ m _. omega arith))
               (put_all (λ m z. m < config.nodes → z ≤ v.op.operation) v.op.last n v.op.operation (λ _. omega arith) (λ m _ below. last_past missing came is g m below));
           knowing = g.knowing;
+          listings = g.listings;
           bars = bars_queued g.bars n l name rule missing came is newer;
         }
       where
@@ -118,6 +121,7 @@ module _ (config : Config) (v : View) where
           operation = operation_blocking g.operation l name rule missing missing came came v.op.work (put v.op.queued n None) v.op.last (put v.op.due n given) is is (λ m. omega arith)
               (λ m under. (subst (λ w. Stands v.map.table v.op.operation w m (v.op.shut m) (v.op.queued m) (v.op.last m) (v.op.due m)) is (g.operation.stands m under)).1);
           knowing = g.knowing;
+          listings = g.listings;
           bars = bars_blocked g.bars n l name rule missing came left given is below item taken off;
         }
 
@@ -136,6 +140,7 @@ module _ (config : Config) (v : View) where
       operation = operation_blocking g.operation l name rule missing (without_node n missing) came (came ++ v.op.due n) (Blocks l name rule (without_node n missing) (came ++ v.op.due n)) v.op.queued v.op.last v.op.due is refl (λ m. omega arith)
           (λ m under. (subst (λ w. Stands v.map.table v.op.operation w m (v.op.shut m) (v.op.queued m) (v.op.last m) (v.op.due m)) is (g.operation.stands m under)).1);
       knowing = g.knowing;
+      listings = g.listings;
       bars = bars_heard g.bars n l name rule missing came sent is gone has told (g.ground.rows n);
     }
 
@@ -181,6 +186,7 @@ module _ (config : Config) (v : View) where
           records = records_moved g.records (put v.phase l (Tells (Replies k reply))) (goes_put v.phase l (Tells (Replies k reply)) live) (stays_put v.phase l (Tells (Replies k reply)) (subst IsTaken (sym runs) tt));
           operation = operation_name_placed g.operation l name rule [] (numbers_below config.nodes) came table_now v.map.table (λ n. owned table_now n kept) k reply is;
           knowing = knowing_put (knowing_placed g.knowing (record { name = name; rule = rule }) (fine_within config.nodes v.map.table (v.call l).cred name rule fine)) l (Tells (Replies k reply)) (λ e. absurd (subst IsUnanswered e live)) (subst Untold (sym runs) tt) tt;
+          listings = listings_noted (listings_put g.listings l (Tells (Replies k reply)) (λ e. absurd (subst IsUnanswered e live)) (live_unlisted (v.phase l) live) tt) (entry.Placed l (v.seq l) table_now.version) g.script.joined (λ m s i names same. cc);
           bars = bars_put (bars_placed g.bars l name rule came kept is named) l (Tells (Replies k reply)) tt;
         }
 
@@ -203,6 +209,7 @@ module _ (config : Config) (v : View) where
       records = g.records;
       operation = operation_landing g.operation name rule old missing missing v.op.work (put v.op.due n []) is is;
       knowing = g.knowing;
+      listings = g.listings;
       bars = bars_installed g.bars n name rule old missing (laid (v.op.due n) (v.rows n)) is has;
     }
 
@@ -220,6 +227,7 @@ module _ (config : Config) (v : View) where
       records = g.records;
       operation = operation_landing g.operation name rule old missing (without_node n missing) (Lands name rule old (without_node n missing)) v.op.due is refl;
       knowing = g.knowing;
+      listings = g.listings;
       bars = bars_done g.bars n name rule old missing is laid_now;
     }
 
@@ -234,5 +242,6 @@ module _ (config : Config) (v : View) where
       records = g.records;
       operation = operation_landed g.operation name rule old is (λ n below. let x = all_landed g.bars name rule old is n below in (x.2, x.3.0));
       knowing = g.knowing;
+      listings = g.listings;
       bars = bars_rested g.bars name rule old is;
     }

@@ -7,6 +7,7 @@ use Rattle.fal_story.proofs.Families.Asking.{FineAsking, asking_posted}
 use Rattle.fal_story.proofs.Families.Barring.{bars_posted}
 use Rattle.fal_story.proofs.Families.Bars.{IsToldBar}
 use Rattle.fal_story.proofs.Families.Knowing.{FineKnowing, knowing_posted}
+use Rattle.fal_story.proofs.Families.Listings.{FineListings, listings_posted}
 use Rattle.fal_story.proofs.Families.Operation.{IsTold}
 use Rattle.fal_story.proofs.Families.OperationCalls.{operation_posted}
 use Rattle.fal_story.proofs.Families.Records.{FineRecords, records_posted}
@@ -18,7 +19,8 @@ pub record IsFine (config : Config) (v : View) (to : Actor) (p : ℕ) (m : Messa
   pub asking : FineAsking config.nodes v.map.table v.fetches v.opened v.commits to p m
   pub records : FineRecords v.taken v.seq v.call v.phase to p m
   pub bars : IsToldBar config.nodes v.map.table v.op.operation v.op.work v.map.barred v.op.due v.op.last to m
-  pub knowing : FineKnowing config.nodes v.map.placings v.seq v.call v.phase to m
+  pub knowing : FineKnowing config.nodes v.map.placings v.map.known v.seq v.call v.phase to m
+  pub listings : FineListings v.map.known v.commits v.seq v.call v.phase to p m
   pub operation : IsTold config.nodes v.map.table (now v) v.op.operation v.op.work v.op.shut v.op.last to m
 
 pub posted_good : (config : Config) (v : View) (to : Actor) (p : ℕ) (m : Message) → IsFine config v to p m → Good config v → Good config (record v { posts = v.posts ++ post to p m ∷ [] })
@@ -33,4 +35,5 @@ posted_good config v to p m fine g = record {
   operation = operation_posted g.operation to p m fine.operation;
   bars = bars_posted g.bars to p m fine.bars;
   knowing = knowing_posted g.knowing to p m fine.knowing;
+  listings = listings_posted g.listings to p m fine.listings;
 }

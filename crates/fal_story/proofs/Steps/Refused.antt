@@ -24,4 +24,4 @@ pub refused_right : (config : Config) (v : View) (l k : ℕ) (errno : Errno) →
     → answer (tree_at v.commits k) (v.call l).cred (v.call l).op ≡ Fail errno → IsRight v.commits (v.seq l) (v.call l) (v.since l) l k (Fail errno)
 refused_right config v l k errno g live from to fails =
     let makes_none = failed_makes (tree_at v.commits k) (v.call l).cred (v.call l).op errno fails in
-    record { tree = failed_tree (tree_at v.commits k) (v.call l).cred (v.call l).op errno fails; from = from; to = to; served = sym fails; made = λ makes. absurd (cc); only = λ i c at by. absurd (g.lanes.uncommitted l i c live at by) }
+    record { tree = failed_tree (tree_at v.commits k) (v.call l).cred (v.call l).op errno fails; plain = refl; from = from; to = to; served = sym fails; made = λ makes. absurd (cc); only = λ i c at by. absurd (g.lanes.uncommitted l i c live at by) }

@@ -38,4 +38,5 @@ reopened_good config v n keys updates missing ends shut g = record {
   operation = operation_reopened g.operation n keys updates missing ends shut;
   bars = bars_locks g.bars (put v.rows n (laid (v.op.due n) (v.rows n))) (put v.op.due n []) v.op.queued v.op.last v.op.work v.commits (is_locking ends tt) (locking_plain v.op.work (is_locking ends tt)) (λ n. omega arith);
   knowing = g.knowing;
+  listings = g.listings;
 }

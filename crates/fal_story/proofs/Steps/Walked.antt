@@ -91,5 +91,6 @@ module _ (config : Config) (v : View) (l : ℕ) (key : Key) (point : ℕ) where
         operation = λ _. has_begun is.work g;
         bars = tt;
         knowing = tt;
+        listings = tt;
       })
       third

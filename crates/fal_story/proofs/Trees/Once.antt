@@ -10,19 +10,20 @@ use Rattle.fal_base.specs.declared.entry.Entry.{Entry}
 use Rattle.fal_base.specs.declared.entry.Entry.TheVariants.{Sent, Commit, Opened, Placed, Stale, Answered}
 use Rattle.fal_base.specs.declared.reply.Reply.{Reply}
 use Rattle.fal_base.specs.EachOnce.{NotAnswered, NotCommitted, NotOpened, NotPlaced, IsOpen, IsLastSent, IsEachOnce}
-use Rattle.fal_base.specs.Transcript.{call_of, sents, is_place}
+use Rattle.fal_base.specs.Transcript.{call_of, sents, is_list, is_place}
 use Rattle.fal_story.proofs.Lists.Grown.{slice_get_front, slice_get_snoc, slice_get_below, put_all, put_both, unequal}
-use Rattle.fal_story.proofs.Phase.{Phase, Idle, Tells, Replies, IsUnanswered}
+use Rattle.fal_story.proofs.Phase.{Phase, Idle, Tells, Replies, Opens, Lists, Goes, IsUnanswered, IsUnopened}
 use Rattle.fal_story.specs.World.{put}
 
--- each call once: so many were sent; nothing answers a call that is under way, and no commit and no change of placement is of one that is not executed
+-- each call once: so many were sent; nothing answers a call that is under way, no commit and no change of placement is of one that is not
+-- executed, and no directory was opened for one whose client was told of none
 pub record Once (config : Config) (entries : List Entry) (seq : ℕ → ℕ) (phase : ℕ → Phase) : Type 0 where
   pub each : IsEachOnce config entries
   pub sent : (l : ℕ) → sents l entries ≡ seq l
   pub unanswered : (l i k : ℕ) (reply : Reply) → phase l ≢ Idle → slice_get entries i ≡ Some (Answered l (seq l) k reply) → ⊥
   pub uncommitted : (l i ino : ℕ) → IsUnanswered (phase l) → slice_get entries i ≡ Some (Commit l (seq l) ino) → ⊥
   pub unplaced : (l i version : ℕ) → IsUnanswered (phase l) → slice_get entries i ≡ Some (Placed l (seq l) version) → ⊥
-  pub plain : (i l s ino point : ℕ) → slice_get entries i ≡ Some (Opened l s ino point) → ⊥
+  pub unopened : (l i ino point : ℕ) → IsUnopened (phase l) → slice_get entries i ≡ Some (Opened l (seq l) ino point) → ⊥
 
 pub sents_snoc : (l : ℕ) (es : List Entry) (e : Entry) → sents l (es ++ e ∷ []) ≡ sents l es + sents l (e ∷ [])
 sents_snoc l [] e = omega arith
@@ -128,7 +129,7 @@ last_at_end es e l s is = ap (sents l) (take-append_seam es (e ∷ [])) ∙ is
 abbrev EntryFits : Config → List Entry → Entry → Type 0
 EntryFits config es (Sent l s) = (s ≡ sents l es + 1) × IsSome (call_of config l s)
 EntryFits config es (Commit l s ino) = (sents l es ≡ s) × (0 < s) × NotAnswered es (length es) l s × NotCommitted es (length es) l s
-EntryFits config es (Opened l s ino point) = ⊥
+EntryFits config es (Opened l s ino point) = (sents l es ≡ s) × (0 < s) × NotAnswered es (length es) l s × NotOpened es (length es) l s × IsSomeAnd (call_of config l s) (λ call. is_list call.op ≡ true)
 EntryFits config es (Placed l s version) = (sents l es ≡ s) × (0 < s) × NotAnswered es (length es) l s × NotPlaced es (length es) l s × IsSomeAnd (call_of config l s) (λ call. is_place call.op ≡ true)
 EntryFits config es (Stale l s old new) = (sents l es ≡ s) × (0 < s) × NotAnswered es (length es) l s
 EntryFits config es (Answered l s k r) = (sents l es ≡ s) × (0 < s) × NotAnswered es (length es) l s
@@ -152,7 +153,11 @@ each_more config es e x fits =
           (slice_get_snoc es e j _ h);
       opened = λ j l s ino p h. ⊎_elim
           (λ y. let z = x.opened j l s ino p y in let b = slice_get_below es j _ y in (open_more es e j l s (omega arith) z.0, not_opened_more es e j l s (omega arith) z.1, z.2))
-          (λ y. absurd (subst (EntryFits config es) y.1 fits))
+          (λ y. let z = subst (EntryFits config es) y.1 fits in (
+            subst (λ i. IsOpen (es ++ e ∷ []) i l s) (sym y.0) (open_at_end config es e l s x z.0 z.1 z.2),
+            subst (λ i. NotOpened (es ++ e ∷ []) i l s) (sym y.0) (not_opened_more es e (length es) l s (omega arith) z.3),
+            z.4,
+          ))
           (slice_get_snoc es e j _ h);
       placed = λ j l s v h. ⊎_elim
           (λ y. let z = x.placed j l s v y in let b = slice_get_below es j _ y in (open_more es e j l s (omega arith) z.0, not_placed_more es e j l s (omega arith) z.1, z.2))
@@ -190,7 +195,9 @@ once_committed config entries seq phase l ino k reply live some x =
       unplaced = λ m i v. put_all (λ m q. IsUnanswered q → slice_get (entries ++ e ∷ []) i ≡ Some (Placed m (seq m) v) → ⊥) phase l (Tells (Replies k reply))
           (λ q. absurd q)
           (λ m _ q. none_more entries e _ (λ same. cc) (λ i. x.unplaced m i v q) i) m;
-      plain = λ i m s n p. none_more entries e _ (λ same. cc) (λ i. x.plain i m s n p) i;
+      unopened = λ m i n p. put_all (λ m q. IsUnopened q → slice_get (entries ++ e ∷ []) i ≡ Some (Opened m (seq m) n p) → ⊥) phase l (Tells (Replies k reply))
+          (λ q. absurd q)
+          (λ m _ q. none_more entries e _ (λ same. cc) (λ i. x.unopened m i n p q) i) m;
     }
 
 -- or its change of placement
@@ -211,15 +218,16 @@ once_placed config entries seq phase l version k reply live some places x =
       unplaced = λ m i v. put_all (λ m q. IsUnanswered q → slice_get (entries ++ e ∷ []) i ≡ Some (Placed m (seq m) v) → ⊥) phase l (Tells (Replies k reply))
           (λ q. absurd q)
           (λ m ne q. none_more entries e _ (λ same. ne (sym (let b : l ≡ m = cc in b))) (λ i. x.unplaced m i v q) i) m;
-      plain = λ i m s n p. none_more entries e _ (λ same. cc) (λ i. x.plain i m s n p) i;
+      unopened = λ m i n p. put_all (λ m q. IsUnopened q → slice_get (entries ++ e ∷ []) i ≡ Some (Opened m (seq m) n p) → ⊥) phase l (Tells (Replies k reply))
+          (λ q. absurd q)
+          (λ m _ q. none_more entries e _ (λ same. cc) (λ i. x.unopened m i n p q) i) m;
     }
 
 -- the client of one learns that its table is stale, and goes on with the call
-pub once_staled : (config : Config) (entries : List Entry) (seq : ℕ → ℕ) (phase : ℕ → Phase) (l old new : ℕ) (q : Phase) → IsUnanswered (phase l) → 0 < seq l → Once config entries seq phase
+pub once_staled : (config : Config) (entries : List Entry) (seq : ℕ → ℕ) (phase : ℕ → Phase) (l old new : ℕ) (q : Phase) → phase l ≢ Idle → Goes (phase l) q → 0 < seq l → Once config entries seq phase
     → Once config (entries ++ Stale l (seq l) old new ∷ []) seq (put phase l q)
-once_staled config entries seq phase l old new q live some x =
+once_staled config entries seq phase l old new q was goes some x =
     let e = Stale l (seq l) old new in
-    let was : phase l ≢ Idle = λ idle. subst IsUnanswered idle live in
     record {
       each = each_more config entries e x.each (x.sent l, some, (λ i p r less h. x.unanswered l i p r was h));
       sent = λ m. let y = sents_snoc m entries e in let z = x.sent m in omega arith;
@@ -227,12 +235,39 @@ once_staled config entries seq phase l old new q live some x =
           (λ _. none_more entries e _ (λ same. cc) (λ i. x.unanswered l i p r was) i)
           (λ m _ t. none_more entries e _ (λ same. cc) (λ i. x.unanswered m i p r t) i) m;
       uncommitted = λ m i n. put_all (λ m t. IsUnanswered t → slice_get (entries ++ e ∷ []) i ≡ Some (Commit m (seq m) n) → ⊥) phase l q
-          (λ _. none_more entries e _ (λ same. cc) (λ i. x.uncommitted l i n live) i)
+          (λ t. none_more entries e _ (λ same. cc) (λ i. x.uncommitted l i n (goes.live t)) i)
           (λ m _ t. none_more entries e _ (λ same. cc) (λ i. x.uncommitted m i n t) i) m;
       unplaced = λ m i v. put_all (λ m t. IsUnanswered t → slice_get (entries ++ e ∷ []) i ≡ Some (Placed m (seq m) v) → ⊥) phase l q
-          (λ _. none_more entries e _ (λ same. cc) (λ i. x.unplaced l i v live) i)
+          (λ t. none_more entries e _ (λ same. cc) (λ i. x.unplaced l i v (goes.live t)) i)
           (λ m _ t. none_more entries e _ (λ same. cc) (λ i. x.unplaced m i v t) i) m;
-      plain = λ i m s n p. none_more entries e _ (λ same. cc) (λ i. x.plain i m s n p) i;
+      unopened = λ m i n p. put_all (λ m t. IsUnopened t → slice_get (entries ++ e ∷ []) i ≡ Some (Opened m (seq m) n p) → ⊥) phase l q
+          (λ t. none_more entries e _ (λ same. cc) (λ i. x.unopened l i n p (goes.unopened t)) i)
+          (λ m _ t. none_more entries e _ (λ same. cc) (λ i. x.unopened m i n p t) i) m;
+    }
+
+-- the client of a listing is told of its directory
+pub once_opened : (config : Config) (entries : List Entry) (seq : ℕ → ℕ) (phase : ℕ → Phase) (l dir point : ℕ) → phase l ≡ Tells (Opens point dir) → 0 < seq l → IsSomeAnd (call_of config l (seq l)) (λ call. is_list call.op ≡ true) → Once config entries seq phase
+    → Once config (entries ++ Opened l (seq l) dir point ∷ []) seq (put phase l (Tells (Lists point dir)))
+once_opened config entries seq phase l dir point is some lists x =
+    let e = Opened l (seq l) dir point in
+    let q = Tells (Lists point dir) in
+    let was : phase l ≢ Idle = λ idle. let none : Tells (Opens point dir) ≡ Idle = sym is ∙ idle in absurd (cc) in
+    let closed : IsUnopened (phase l) = subst IsUnopened (sym is) tt in
+    record {
+      each = each_more config entries e x.each (x.sent l, some, (λ i p r less h. x.unanswered l i p r was h), (λ i n p less h. x.unopened l i n p closed h), lists);
+      sent = λ m. let y = sents_snoc m entries e in let z = x.sent m in omega arith;
+      unanswered = λ m i p r. put_all (λ m t. t ≢ Idle → slice_get (entries ++ e ∷ []) i ≡ Some (Answered m (seq m) p r) → ⊥) phase l q
+          (λ _. none_more entries e _ (λ same. cc) (λ i. x.unanswered l i p r was) i)
+          (λ m _ t. none_more entries e _ (λ same. cc) (λ i. x.unanswered m i p r t) i) m;
+      uncommitted = λ m i n. put_all (λ m t. IsUnanswered t → slice_get (entries ++ e ∷ []) i ≡ Some (Commit m (seq m) n) → ⊥) phase l q
+          (λ t. absurd t)
+          (λ m _ t. none_more entries e _ (λ same. cc) (λ i. x.uncommitted m i n t) i) m;
+      unplaced = λ m i v. put_all (λ m t. IsUnanswered t → slice_get (entries ++ e ∷ []) i ≡ Some (Placed m (seq m) v) → ⊥) phase l q
+          (λ t. absurd t)
+          (λ m _ t. none_more entries e _ (λ same. cc) (λ i. x.unplaced m i v t) i) m;
+      unopened = λ m i n p. put_all (λ m t. IsUnopened t → slice_get (entries ++ e ∷ []) i ≡ Some (Opened m (seq m) n p) → ⊥) phase l q
+          (λ t. absurd t)
+          (λ m ne t. none_more entries e _ (λ same. ne (sym (let b : l ≡ m = cc in b))) (λ i. x.unopened m i n p t) i) m;
     }
 
 -- the lane's next call was not sent, so that it has no answer, no commit and no change of placement yet
@@ -251,6 +286,9 @@ next_uncommitted config entries seq phase l i ino x h = next_unsent config entri
 
 next_unplaced : (config : Config) (entries : List Entry) (seq : ℕ → ℕ) (phase : ℕ → Phase) (l i version : ℕ) → Once config entries seq phase → slice_get entries i ≡ Some (Placed l (seq l + 1) version) → ⊥
 next_unplaced config entries seq phase l i version x h = next_unsent config entries seq phase l i x (x.each.placed i l (seq l + 1) version h).0
+
+next_unopened : (config : Config) (entries : List Entry) (seq : ℕ → ℕ) (phase : ℕ → Phase) (l i ino point : ℕ) → Once config entries seq phase → slice_get entries i ≡ Some (Opened l (seq l + 1) ino point) → ⊥
+next_unopened config entries seq phase l i ino point x h = next_unsent config entries seq phase l i x (x.each.opened i l (seq l + 1) ino point h).0
 
 -- a call is sent
 pub once_sent : (config : Config) (entries : List Entry) (seq : ℕ → ℕ) (phase : ℕ → Phase) (l : ℕ) (q : Phase) → IsSome (call_of config l (seq l + 1)) → Once config entries seq phase
@@ -271,7 +309,9 @@ once_sent config entries seq phase l q named x =
       unplaced = λ m i v. put_both (λ m s t. IsUnanswered t → slice_get (entries ++ e ∷ []) i ≡ Some (Placed m s v) → ⊥) seq phase l (seq l + 1) q
           (λ _. none_more entries e _ (λ same. cc) (λ j. next_unplaced config entries seq phase l j v x) i)
           (λ m _ t. none_more entries e _ (λ same. cc) (λ j. x.unplaced m j v t) i) m;
-      plain = λ i m s n p. none_more entries e _ (λ same. cc) (λ j. x.plain j m s n p) i;
+      unopened = λ m i n p. put_both (λ m s t. IsUnopened t → slice_get (entries ++ e ∷ []) i ≡ Some (Opened m s n p) → ⊥) seq phase l (seq l + 1) q
+          (λ _. none_more entries e _ (λ same. cc) (λ j. next_unopened config entries seq phase l j n p x) i)
+          (λ m _ t. none_more entries e _ (λ same. cc) (λ j. x.unopened m j n p t) i) m;
     }
 
 -- the lane's last call is answered, which was not
@@ -291,7 +331,9 @@ once_answered config entries seq phase l k reply some none x =
       unplaced = λ m i v. put_all (λ m t. IsUnanswered t → slice_get (entries ++ e ∷ []) i ≡ Some (Placed m (seq m) v) → ⊥) phase l Idle
           (λ t. absurd t)
           (λ m ne t. none_more entries e _ (λ same. cc) (λ j. x.unplaced m j v t) i) m;
-      plain = λ i m s n p. none_more entries e _ (λ same. cc) (λ j. x.plain j m s n p) i;
+      unopened = λ m i n p. put_all (λ m t. IsUnopened t → slice_get (entries ++ e ∷ []) i ≡ Some (Opened m (seq m) n p) → ⊥) phase l Idle
+          (λ t. absurd t)
+          (λ m ne t. none_more entries e _ (λ same. cc) (λ j. x.unopened m j n p t) i) m;
     }
 
 -- nothing answers the call that was sent just now

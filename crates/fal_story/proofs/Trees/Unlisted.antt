@@ -1,10 +1,8 @@
--- The calls that are served are never answered with names.
-use Rattle.std.proofs.Common.{◌≡◌, ⊎_elim, ℕ, Bool, true, false, not, ◌&&◌, ◌||◌, ◌==◌, cond, List, [], ◌∷◌, Option, None, Some, refl, ap, ◌∙◌}
-use Rattle.std.specs.Prelude.{IsTrue, is_some}
+-- No call but a list is answered with names.
+use Rattle.std.proofs.Common.{◌≡◌, ℕ, Bool, true, false, not, ◌&&◌, ◌||◌, ◌==◌, cond, List, [], ◌∷◌, Option, None, Some, refl}
+use Rattle.std.specs.Prelude.{is_some}
 use Rattle.std.specs.List.{list_any}
-use Rattle.fal_base.specs.declared.call.Config.{Config}
 use Rattle.fal_base.specs.declared.call.Cred.{Cred}
-use Rattle.fal_base.specs.declared.entry.Entry.{Entry}
 use Rattle.fal_base.specs.declared.inode.Inode.{Inode}
 use Rattle.fal_base.specs.declared.key.Key.{Key}
 use Rattle.fal_base.specs.declared.op.Op.{Op}
@@ -14,18 +12,13 @@ use Rattle.fal_base.specs.declared.path.PathArg.TheVariants.{Good, Bad}
 use Rattle.fal_base.specs.declared.reply.Errno.{Errno}
 use Rattle.fal_base.specs.declared.reply.Errno.TheVariants.{Eacces, Ebusy, Eexist, Einval, Eisdir, Enospc, Enotdir, Enotempty, Eperm}
 use Rattle.fal_base.specs.declared.reply.Reply.{Reply}
-use Rattle.fal_base.specs.declared.reply.Reply.TheVariants.{Fine, Fail, Stat, Names}
+use Rattle.fal_base.specs.declared.reply.Reply.TheVariants.{Fine, Fail, Stat}
 use Rattle.fal_base.specs.declared.rule.Rule.{Rule}
 use Rattle.fal_base.specs.Answer.{answer, checked, found, walked, reached, parent_grants, is_root, has_entries, inode_answer, replace_answer, rmdir_answer, rename_answer}
-use Rattle.fal_base.specs.Listing.{AreListings}
-use Rattle.fal_base.specs.Places.{is_full, is_outside, place_answer, ArePlaced}
-use Rattle.fal_base.specs.Transcript.{is_names}
+use Rattle.fal_base.specs.Places.{is_full, is_outside, place_answer}
+use Rattle.fal_base.specs.Transcript.{is_list, is_names}
 use Rattle.fal_base.specs.Tree.{Tree, row_at, same_key}
 use Rattle.fal_base.specs.Walk.{Walked, Stop, Ready, walk, is_dir, grants}
-use Rattle.fal_story.proofs.Events.ServedCalls.{call_is}
-use Rattle.fal_story.proofs.Families.Script.{Answers}
-use Rattle.fal_story.proofs.Trees.Placings.{tells_place}
-use Rattle.fal_story.specs.Clusters.{IsCluster, is_served}
 
 checked_unlisted : (checks : List (Bool × Errno)) (reply : Reply) → is_names reply ≡ false → is_names (checked checks reply) ≡ false
 checked_unlisted [] reply is = is
@@ -81,28 +74,19 @@ rename_unlisted tree cred (Good from) (Good to) =
     found_unlisted (row_at tree old_last) (moves old_parent old_last new_parent passed new_last) (moves_is old_parent old_last new_parent passed new_last))) in
     elim (is_root from || is_root to) as (λ b. is_names (cond b (Fail Ebusy) (walked (walk tree cred from) (λ old_parent _ old_last. walked (walk tree cred to) (ends old_parent old_last)))) ≡ false) [ true ↦ refl | false ↦ walks ]
 
-served_unlisted : (tree : Tree) (cred : Cred) (call : Op) → IsTrue (is_served call) → is_names (answer tree cred call) ≡ false
-served_unlisted tree cred (op.Mkdir path mode) is = reached_unlisted tree cred path (λ parent last row. checked ((is_some row, Eexist) ∷ (not (parent_grants cred 2 parent), Eacces) ∷ []) Fine) (λ dir last row. checked_unlisted ((is_some row, Eexist) ∷ (not (parent_grants cred 2 dir), Eacces) ∷ []) Fine refl)
-served_unlisted tree cred (op.Create path mode) is = reached_unlisted tree cred path (λ parent last row. checked ((is_some row, Eexist) ∷ (not (parent_grants cred 2 parent), Eacces) ∷ []) Fine) (λ dir last row. checked_unlisted ((is_some row, Eexist) ∷ (not (parent_grants cred 2 dir), Eacces) ∷ []) Fine refl)
-served_unlisted tree cred (op.Stat path) is = reached_unlisted tree cred path (λ parent last row. found row (λ inode. Stat inode)) (λ dir last row. found_unlisted row (λ inode. Stat inode) (λ inode. refl))
-served_unlisted tree cred (op.Access path want) is = reached_unlisted tree cred path (λ parent last row. found row (λ inode. checked ((not (grants cred want inode), Eacces) ∷ []) Fine)) (λ dir last row. found_unlisted row (λ inode. checked ((not (grants cred want inode), Eacces) ∷ []) Fine) (λ inode. checked_unlisted ((not (grants cred want inode), Eacces) ∷ []) Fine refl))
-served_unlisted tree cred (op.Chmod path mode) is = inode_unlisted tree cred path (λ inode. (not (cred.uid == 0 || cred.uid == inode.uid), Eperm) ∷ [])
-served_unlisted tree cred (op.Chown path uid gid) is = inode_unlisted tree cred path (λ inode. (not (cred.uid == 0), Eperm) ∷ [])
-served_unlisted tree cred (op.Truncate path size) is = reached_unlisted tree cred path (λ parent last row. found row (λ inode. checked ((is_dir inode, Eisdir) ∷ (not (grants cred 2 inode), Eacces) ∷ []) Fine)) (λ dir last row. found_unlisted row (λ inode. checked ((is_dir inode, Eisdir) ∷ (not (grants cred 2 inode), Eacces) ∷ []) Fine) (λ inode. checked_unlisted ((is_dir inode, Eisdir) ∷ (not (grants cred 2 inode), Eacces) ∷ []) Fine refl))
-served_unlisted tree cred (op.Unlink path) is = reached_unlisted tree cred path (λ parent last row. found row (λ inode. checked ((not (parent_grants cred 2 parent), Eacces) ∷ (is_dir inode, Eperm) ∷ []) Fine)) (λ dir last row. found_unlisted row (λ inode. checked ((not (parent_grants cred 2 dir), Eacces) ∷ (is_dir inode, Eperm) ∷ []) Fine) (λ inode. checked_unlisted ((not (parent_grants cred 2 dir), Eacces) ∷ (is_dir inode, Eperm) ∷ []) Fine refl))
-served_unlisted tree cred (op.Rmdir path) is = rmdir_unlisted tree cred path
-served_unlisted tree cred (op.Rename old new) is = rename_unlisted tree cred old new
-served_unlisted tree cred (op.List path) is = absurd (cc)
-served_unlisted tree cred (op.Place name rule) is = refl
+pub tree_unlisted : (tree : Tree) (cred : Cred) (call : Op) → is_list call ≡ false → is_names (answer tree cred call) ≡ false
+tree_unlisted tree cred (op.Mkdir path mode) is = reached_unlisted tree cred path (λ parent last row. checked ((is_some row, Eexist) ∷ (not (parent_grants cred 2 parent), Eacces) ∷ []) Fine) (λ dir last row. checked_unlisted ((is_some row, Eexist) ∷ (not (parent_grants cred 2 dir), Eacces) ∷ []) Fine refl)
+tree_unlisted tree cred (op.Create path mode) is = reached_unlisted tree cred path (λ parent last row. checked ((is_some row, Eexist) ∷ (not (parent_grants cred 2 parent), Eacces) ∷ []) Fine) (λ dir last row. checked_unlisted ((is_some row, Eexist) ∷ (not (parent_grants cred 2 dir), Eacces) ∷ []) Fine refl)
+tree_unlisted tree cred (op.Stat path) is = reached_unlisted tree cred path (λ parent last row. found row (λ inode. Stat inode)) (λ dir last row. found_unlisted row (λ inode. Stat inode) (λ inode. refl))
+tree_unlisted tree cred (op.Access path want) is = reached_unlisted tree cred path (λ parent last row. found row (λ inode. checked ((not (grants cred want inode), Eacces) ∷ []) Fine)) (λ dir last row. found_unlisted row (λ inode. checked ((not (grants cred want inode), Eacces) ∷ []) Fine) (λ inode. checked_unlisted ((not (grants cred want inode), Eacces) ∷ []) Fine refl))
+tree_unlisted tree cred (op.Chmod path mode) is = inode_unlisted tree cred path (λ inode. (not (cred.uid == 0 || cred.uid == inode.uid), Eperm) ∷ [])
+tree_unlisted tree cred (op.Chown path uid gid) is = inode_unlisted tree cred path (λ inode. (not (cred.uid == 0), Eperm) ∷ [])
+tree_unlisted tree cred (op.Truncate path size) is = reached_unlisted tree cred path (λ parent last row. found row (λ inode. checked ((is_dir inode, Eisdir) ∷ (not (grants cred 2 inode), Eacces) ∷ []) Fine)) (λ dir last row. found_unlisted row (λ inode. checked ((is_dir inode, Eisdir) ∷ (not (grants cred 2 inode), Eacces) ∷ []) Fine) (λ inode. checked_unlisted ((is_dir inode, Eisdir) ∷ (not (grants cred 2 inode), Eacces) ∷ []) Fine refl))
+tree_unlisted tree cred (op.Unlink path) is = reached_unlisted tree cred path (λ parent last row. found row (λ inode. checked ((not (parent_grants cred 2 parent), Eacces) ∷ (is_dir inode, Eperm) ∷ []) Fine)) (λ dir last row. found_unlisted row (λ inode. checked ((not (parent_grants cred 2 dir), Eacces) ∷ (is_dir inode, Eperm) ∷ []) Fine) (λ inode. checked_unlisted ((not (parent_grants cred 2 dir), Eacces) ∷ (is_dir inode, Eperm) ∷ []) Fine refl))
+tree_unlisted tree cred (op.Rmdir path) is = rmdir_unlisted tree cred path
+tree_unlisted tree cred (op.Rename old new) is = rename_unlisted tree cred old new
+tree_unlisted tree cred (op.List path) is = absurd (cc)
+tree_unlisted tree cred (op.Place name rule) is = refl
 
-place_unlisted : (nodes : ℕ) (ruled : List (List ℕ)) (cred : Cred) (name : List ℕ) (rule : Rule) → is_names (place_answer nodes ruled cred name rule) ≡ false
+pub place_unlisted : (nodes : ℕ) (ruled : List (List ℕ)) (cred : Cred) (name : List ℕ) (rule : Rule) → is_names (place_answer nodes ruled cred name rule) ≡ false
 place_unlisted nodes ruled cred name rule = checked_unlisted ((not (cred.uid == 0), Eperm) ∷ (is_outside rule nodes, Einval) ∷ (is_full ruled name, Enospc) ∷ []) Fine refl
-
--- so there is no listing
-pub none_listed : (config : Config) (entries : List Entry) (seq : ℕ → ℕ) (phase : ℕ → _) → IsCluster config → Answers config entries seq phase → ArePlaced config entries → AreListings config entries
-none_listed config entries seq phase cluster answers placed j l s e names call is named =
-    let none : true ≡ false = ⊎_elim
-    (λ tree. ap is_names ((answers j l s e (Names names) is).2 call named tree).served ∙ served_unlisted _ call.cred call.op (call_is config l s call cluster named).served)
-    (λ x. ap is_names (placed.answers j l s e (Names names) call x.0 x.1.0 is named x.1.1).served ∙ place_unlisted config.nodes _ call.cred x.0 x.1.0)
-    (tells_place call.op) in
-    absurd (cc)

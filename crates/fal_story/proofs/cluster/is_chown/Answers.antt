@@ -1,4 +1,4 @@
-use Rattle.std.proofs.Common.{◌<◌, ◌^◌, refl, arith}
+use Rattle.std.proofs.Common.{◌<◌, ◌^◌, arith}
 use Rattle.fal_story.proofs.Ranges.Fitting.{chown_is}
 use Rattle.fal_story.proofs.cluster.is_chown.Goals as goal
 
@@ -7,4 +7,4 @@ returns c =
     let uid : c.args.uid < 2 ^ 32 = omega arith in
     let gid : c.args.gid < 2 ^ 32 = omega arith in
     let is = chown_is c.args.path.now c.args.uid c.args.gid uid gid in
-    (λ yes. let can = is.0 (c.is_held.ensures.0 yes) in (can.1, can.2), λ can. c.is_held.ensures.1 (is.1 (refl, can.0, can.1)))
+    (λ yes. is.0 (c.is_held.ensures.0 yes), λ can. c.is_held.ensures.1 (is.1 can))

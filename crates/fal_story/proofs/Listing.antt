@@ -1,0 +1,10 @@
+pub mod ClientEnds
+pub mod Keeping
+pub mod ListAgain
+pub mod ListAsks
+pub mod ListEvents
+pub mod Parts
+pub mod PartsClient
+pub mod PartsNode
+pub mod PartsRuns
+pub mod ServeList
